@@ -1,0 +1,3 @@
+pub mod AnswerSet
+pub mod Position
+pub mod Semantics

@@ -1,0 +1,1 @@
+// What rules mean, and the theorems about it. The theorems stand on the contracts of the functions below.
