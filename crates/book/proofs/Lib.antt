@@ -1,0 +1,5 @@
+pub mod Entering
+pub mod Every
+pub mod Removals
+pub mod Reweighing
+pub mod Sizes

@@ -16,6 +16,9 @@ pub record Clause : Type 0 where
   pub weight : ℕ
   pub body : List Literal
 
+abbrev pub clause : Head → ℕ → List Literal → Clause
+clause head weight body = record { head = head; weight = weight; body = body }
+
 -- the levels, the number of statements and the rules, in their order
 pub record Ledger : Type 0 where
   pub levels : ℕ

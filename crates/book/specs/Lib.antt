@@ -1,1 +1,5 @@
+pub mod Admission
+pub mod Calls
 pub mod Ledger
+pub mod Rows
+pub mod View

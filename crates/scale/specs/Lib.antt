@@ -1,3 +1,4 @@
-pub mod Meaning
+pub mod Causes
 pub mod Kinds
+pub mod Meaning
 pub mod Refusals
