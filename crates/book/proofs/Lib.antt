@@ -1,5 +1,6 @@
 pub mod Entering
 pub mod Every
+pub mod Lawfulness
 pub mod Removals
 pub mod Reweighing
 pub mod Sizes

@@ -18,7 +18,10 @@ impl Body {
         for (i, literal) in literals.iter().enumerate() {
             row[i] = *literal;
         }
-        Ok(Body { literals: row, len: literals.len() })
+        Ok(Body {
+            literals: row,
+            len: literals.len(),
+        })
     }
 
     pub fn literals(&self) -> &[Literal]

@@ -26,7 +26,11 @@ impl Book {
     {
         let rows = Vec::with_capacity(heap, MOST_RULES)?;
         let table = RuleTable { rows };
-        Ok(Book { levels: 2, statements: 0, table })
+        Ok(Book {
+            levels: 2,
+            statements: 0,
+            table,
+        })
     }
 
     // Gives the book new levels and statements, and no rules.

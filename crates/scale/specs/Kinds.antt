@@ -1,6 +1,6 @@
 -- The three kinds of scale that come with the engine, over plain numbers.
-use mathlib.Core.Bool.{Bool, cond}
-use Prim.Native.Nat.{ℕ, suc, _+_, _-_, _^_, min, max}
+use mathlib.Core.Bool.{cond}
+use Prim.Native.Nat.{ℕ, _+_, _-_, _^_, min, max}
 use lib.Dec.{leb, eqb}
 use lib.Bits.{bitAnd, bitOr}
 use lib.Count.{ones}

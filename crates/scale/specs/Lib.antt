@@ -1,4 +1,5 @@
 pub mod Causes
 pub mod Kinds
+pub mod Made
 pub mod Meaning
 pub mod Refusals

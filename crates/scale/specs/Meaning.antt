@@ -21,6 +21,19 @@ top m = m .levels - 1
 abbrev pub clip : Meaning → ℕ → ℕ
 clip m a = min a (top m)
 
+-- What a scale answers, whatever the arguments: the meaning of the clipped ones.
+abbrev pub clipped : Meaning → Meaning
+clipped m = record {
+  levels = m .levels;
+  height = m .height;
+  below = λ a b. m .below (clip m a) (clip m b);
+  join = λ a b. m .join (clip m a) (clip m b);
+  product = λ a b. m .product (clip m a) (clip m b);
+  residuum = λ a b. m .residuum (clip m a) (clip m b);
+  lack = λ a. m .lack (clip m a);
+  rank = λ a. m .rank (clip m a);
+}
+
 -- A residuated lattice with a negation (`lack`) that turns the order round, and a rank that strictly grows along the order.
 pub record Laws (m : Meaning) : Type 0 where
   pub levels-least : 2 ≤ m .levels

@@ -1,0 +1,12 @@
+pub mod Addendum
+pub mod Apart
+pub mod Least
+pub mod Lists
+pub mod Order
+pub mod Pairs
+pub mod Positions
+pub mod Raising
+pub mod Ranges
+pub mod Reducts
+pub mod Theorems
+pub mod Values

@@ -7,7 +7,7 @@ use Rattle.scale.specs.Meaning.{Meaning}
 use Rattle.book.specs.Ledger.{Clause}
 use Rattle.book.specs.declared.rule.Literal.{Literal}
 use Rattle.book.specs.declared.rule.Literal.the-variants.{Plain, Above, Lacking}
-use Rattle.theory.specs.Semantics.{at, Setting, holds, All}
+use Rattle.theory.specs.Semantics.{at, Setting, holds, All, StatementHolds}
 
 -- the literals of a body that are not lackings
 abbrev pub positive : List Literal → List Literal
@@ -45,3 +45,9 @@ pub record LeastModel (m : Meaning) (n : ℕ) (cs : List Clause) (row : List ℕ
 pub record AnswerSet (m : Meaning) (n : ℕ) (cs : List Clause) (row : List ℕ) : Type 0 where
   pub satisfies : Model m n cs row
   pub least : LeastModel m n (map (reduct m (at row)) cs) row
+
+-- the least setting at which, under an upper one, every rule with a statement for its head holds
+pub record LeastUnder (m : Meaning) (n : ℕ) (cs : List Clause) (upper row : List ℕ) : Type 0 where
+  pub setting : Setting m n row
+  pub satisfied : All (StatementHolds m (at row) (at upper)) cs
+  pub least : (other : List ℕ) → Setting m n other → All (StatementHolds m (at other) (at upper)) cs → Under m row other

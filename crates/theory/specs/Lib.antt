@@ -1,3 +1,5 @@
 pub mod AnswerSet
+pub mod Equivalence
 pub mod Position
 pub mod Semantics
+pub mod Theorems

@@ -5,8 +5,9 @@ use mathlib.Core.List.{List, [], _∷_, map}
 use Prim.Native.Nat.{ℕ, zero, suc, _<_}
 use lib.Dec.{eqb}
 use lib.ListN.{length, getD, replicate}
+pub use Rattle.std.specs.shelf.Lists.{All}
 use Rattle.scale.specs.Meaning.{Meaning, top}
-use Rattle.book.specs.Ledger.{Clause, Ledger}
+use Rattle.book.specs.Ledger.{Clause}
 use Rattle.book.specs.declared.rule.Head.{Head}
 use Rattle.book.specs.declared.rule.Head.the-variants.{Statement, Bound}
 use Rattle.book.specs.declared.rule.Literal.{Literal}
@@ -44,11 +45,6 @@ head-value l (Bound d) = d
 abbrev pub holds : Meaning → (ℕ → ℕ) → (ℕ → ℕ) → Clause → Bool
 holds m l u c = m .below (yield m l u c) (head-value l (c .head))
 
--- every element of a list has a property
-abbrev pub All : {A : Type 0} → (A → Type 0) → List A → Type 0
-All P [] = Unit {0}
-All P (x ∷ xs) = P x × All P xs
-
 -- what a rule demands of statement s: its yield where s is its head, otherwise nothing
 abbrev pub share : Meaning → (ℕ → ℕ) → (ℕ → ℕ) → Clause → ℕ → ℕ
 share m l u c s = elim (c .head) [ Statement t ↦ cond (eqb t s) (yield m l u c) 0 | Bound d ↦ 0 ]
@@ -80,6 +76,10 @@ pub record Rounds (m : Meaning) (cs : List Clause) (n : ℕ) (upper : List ℕ) 
 -- a rule with a bound for its head holds; of the others nothing is asked
 abbrev pub BoundHolds : Meaning → (ℕ → ℕ) → (ℕ → ℕ) → Clause → Type 0
 BoundHolds m l u c = elim (c .head) [ Statement s ↦ Unit {0} | Bound d ↦ holds m l u c ≡ true ]
+
+-- a rule with a statement for its head holds; of the bounds nothing is asked
+abbrev pub StatementHolds : Meaning → (ℕ → ℕ) → (ℕ → ℕ) → Clause → Type 0
+StatementHolds m l u c = elim (c .head) [ Statement s ↦ holds m l u c ≡ true | Bound d ↦ Unit {0} ]
 
 -- A setting is a scene of the rules, after r rounds: it is the least model under itself, and every bound holds there.
 pub record SceneAfter (m : Meaning) (cs : List Clause) (n : ℕ) (row : List ℕ) (r : ℕ) : Type 0 where

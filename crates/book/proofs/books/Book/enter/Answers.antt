@@ -41,5 +41,5 @@ returns c =
     let room : leb 64 (length (ledger-of book .rules)) ≡ false = lt-leb _ _ (omega (arith, rules-length book)) in
     let lawful = first-met-more (unlawful (book .levels) (book .statements) rule) (cause (leb 64 (length (ledger-of book .rules))) BookFull ∷ []) (c .in-Continue-rule .ensures tt .0) in
     let rules : map clause-of (vec-items (c .push-reserved .last .self)) ≡ ledger-of book .rules ++ rule ∷ [] =
-        ap (map clause-of) (c .push-reserved .ensures .items) ∙ map-push clause-of (vec-items (book .table .rows)) (c .in-Continue-rule .rule) ∙ ap (λ x. ledger-of book .rules ++ x ∷ []) (c .in-Continue-rule .ensures tt .1) in
+    ap (map clause-of) (c .push-reserved .ensures .items) ∙ map-push clause-of (vec-items (book .table .rows)) (c .in-Continue-rule .rule) ∙ ap (λ x. ledger-of book .rules ++ x ∷ []) (c .in-Continue-rule .ensures tt .1) in
     record { answer = rw (lawful, room) refl; after = rw (lawful, room) (ap (with-rules (ledger-of book)) rules) }

@@ -37,5 +37,5 @@ returns c =
     let degree : leb (book .levels) (c .args .weight) ≡ false = lt-leb _ _ (omega arith) in
     let found : leb (length (ledger-of book .rules)) (c .args .i) ≡ false = lt-leb _ _ (omega (arith, rules-length book)) in
     let rules : map clause-of (vec-items (c .reweigh .last .self .rows)) ≡ weight-changed (ledger-of book .rules) (c .args .i) (c .args .weight) =
-        ap (map clause-of) (c .reweigh .ensures .rows blank) ∙ ledger-reweighed (c .args .weight) (vec-items rows) (c .args .i) blank there in
+    ap (map clause-of) (c .reweigh .ensures .rows blank) ∙ ledger-reweighed (c .args .weight) (vec-items rows) (c .args .i) blank there in
     record { answer = rw (degree, found) refl; after = rw (degree, found) (ap (with-rules (ledger-of book)) rules) }

@@ -36,5 +36,5 @@ returns c =
     let there : i < length (ledger-of book .rules) = omega (arith, rules-length book) in
     let unmet : leb (length (ledger-of book .rules)) i ≡ false = lt-leb _ _ there in
     let rules : map clause-of (vec-items (c .remove .last .self)) ≡ take i (map clause-of rows) ++ drop (suc i) (map clause-of rows) =
-        ap (map clause-of) (c .remove .ensures .items) ∙ map-append clause-of (take i rows) (drop (suc i) rows) ∙ ap₂ _++_ (sym (take-map clause-of i rows)) (sym (drop-map clause-of (suc i) rows)) in
+    ap (map clause-of) (c .remove .ensures .items) ∙ map-append clause-of (take i rows) (drop (suc i) rows) ∙ ap₂ _++_ (sym (take-map clause-of i rows)) (sym (drop-map clause-of (suc i) rows)) in
     record { answer = rw unmet refl; after = rw unmet (ap (with-rules (ledger-of book)) rules) }

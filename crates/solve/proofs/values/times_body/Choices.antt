@@ -1,0 +1,11 @@
+use mathlib.Core.Path.{_≡_}
+use Prim.Native.Nat.{_<_}
+use lib.ListN.{drop}
+use Rattle.theory.specs.Semantics.{at, body-value}
+use Rattle.solve.proofs.values.times_body.Given as given
+
+abbrev pub Inv-loop-literal : given.InvT-loop-literal
+Inv-loop-literal g l =
+    let m = g .S·Scale .meaning (l .scale) in
+    let worth = body-value m (at (l .lower)) (at (l .upper)) in
+    (l .product < m .levels) × (m .product (l .product) (worth (drop (l .literal-index) (l .body))) ≡ m .product (l .start) (worth (l .body)))

@@ -1,0 +1,16 @@
+-- What the inner functions of the solver ask of their rows and rules.
+use Prim.Native.Nat.{ℕ, _<_}
+use mathlib.Core.List.{List, map}
+use Rattle.scale.specs.Meaning.{Meaning}
+use Rattle.book.specs.Ledger.{Lawful}
+use Rattle.book.specs.Rows.{clause-of}
+use Rattle.book.specs.declared.rows.Rule.{Rule}
+use Rattle.theory.specs.Semantics.{at, All}
+
+-- every degree of the row is one of the scale's
+abbrev pub Degrees : Meaning → List ℕ → Type 0
+Degrees m row = (s : ℕ) → at row s < m .levels
+
+-- every rule is lawful on the scale's levels and on n statements
+abbrev pub Rules : Meaning → ℕ → List Rule → Type 0
+Rules m n rules = All (λ r. Lawful (m .levels) n (clause-of r)) rules

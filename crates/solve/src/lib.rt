@@ -1,0 +1,2 @@
+// Judging settings and finding scenes, on any scale.
+mod values;
