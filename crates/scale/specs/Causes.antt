@@ -1,4 +1,5 @@
 -- How a call is refused: the causes that it tests, in order, and the first that is met decides.
+use mathlib.Core.Path.{_≡_}
 use mathlib.Core.Bool.{Bool, cond}
 use mathlib.Core.List.{List, [], _∷_}
 use Rattle.std.specs.declared.option.Option.{Option}
@@ -28,3 +29,9 @@ answered (Some e) granted = Err e
 abbrev pub left : {A : Type 0} → Option Refusal → A → A → A
 left None changed before = changed
 left (Some e) changed before = before
+
+-- a call is refused by its first cause, or it grants an answer of which P holds
+abbrev pub Answers : {A : Type 0} → Option Refusal → Result A Refusal → (A → Type 0) → Type 0
+Answers (Some e) r P = r ≡ Err e
+Answers None (Ok x) P = P x
+Answers None (Err e) P = ⊥

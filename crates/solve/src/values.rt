@@ -1,12 +1,14 @@
 // What literals, bodies and rules are worth at a lower and an upper row of degrees.
 ghost use mathlib.Core.Path.{_≡_};
 ghost use mathlib.Core.Bool.{true};
+ghost use mathlib.Core.List.{map};
 ghost use Prim.Native.Nat.{_<_};
+ghost use lib.ListN.{length};
 ghost use Rattle.scale.specs.Meaning.{top};
 ghost use Rattle.book.specs.Ledger.{every, literal-fits, fits};
 ghost use Rattle.book.specs.Rows.{clause-of};
-ghost use Rattle.theory.specs.Semantics.{at, value, body-value, yield, holds, head-value};
-ghost use Rattle.solve.specs.Ready.{Degrees};
+ghost use Rattle.theory.specs.Semantics.{at, value, body-value, yield, holds, head-value, share, gain};
+ghost use Rattle.solve.specs.Ready.{Degrees, Rules};
 use book::Head;
 use book::Literal;
 use book::Rule;
@@ -69,4 +71,45 @@ pub(crate) fn rule_yield<S: Scale>(scale: &S, rule: &Rule, lower: &[u8], upper: 
     ensures { λ r. ⌜ r ≡ yield (meaning (now (scale .entry))) (at (now (lower .entry))) (at (now (upper .entry))) (clause-of (now (rule .entry))) ⌝ }
 {
     times_body(scale, rule.weight, rule.body.literals(), lower, upper)
+}
+
+// Does the rule hold: is its yield below its head, or below its bound?
+pub(crate) fn rule_holds<S: Scale>(scale: &S, rule: &Rule, lower: &[u8], upper: &[u8]) -> bool
+    requires { ⌜ Degrees (meaning (now scale)) (now lower) ⌝ ∗ ⌜ Degrees (meaning (now scale)) (now upper) ⌝ ∗ ⌜ fits (meaning (now scale) .levels) (clause-of (now rule)) ≡ true ⌝ }
+    ensures { λ r. ⌜ r ≡ holds (meaning (now (scale .entry))) (at (now (lower .entry))) (at (now (upper .entry))) (clause-of (now (rule .entry))) ⌝ }
+{
+    scale.below(rule_yield(scale, rule, lower, upper), head_degree(rule.head, lower))
+}
+
+// The degree of a head; a bound is its own.
+pub(crate) fn head_degree(head: Head, lower: &[u8]) -> u8
+    ensures { λ r. ⌜ r ≡ head-value (at (now (lower .entry))) head ⌝ }
+{
+    match head {
+        Head::Statement(s) => degree(lower, s),
+        Head::Bound(d) => d,
+    }
+}
+
+// What a rule demands of a statement: its yield where the statement is its head, otherwise nothing.
+fn rule_share<S: Scale>(scale: &S, rule: &Rule, statement: usize, lower: &[u8], upper: &[u8]) -> u8
+    requires { ⌜ Degrees (meaning (now scale)) (now lower) ⌝ ∗ ⌜ Degrees (meaning (now scale)) (now upper) ⌝ ∗ ⌜ fits (meaning (now scale) .levels) (clause-of (now rule)) ≡ true ⌝ }
+    ensures { λ r. ⌜ r ≡ share (meaning (now (scale .entry))) (at (now (lower .entry))) (at (now (upper .entry))) (clause-of (now (rule .entry))) statement ⌝ }
+{
+    match rule.head {
+        Head::Statement(s) if usize::from(s) == statement => rule_yield(scale, rule, lower, upper),
+        _ => 0,
+    }
+}
+
+// The join of what all rules demand of a statement.
+pub(crate) fn gain_of<S: Scale>(scale: &S, rules: &[Rule], statement: usize, lower: &[u8], upper: &[u8]) -> u8
+    requires { ⌜ Degrees (meaning (now scale)) (now lower) ⌝ ∗ ⌜ Degrees (meaning (now scale)) (now upper) ⌝ ∗ ⌜ Rules (meaning (now scale)) (length (now upper)) (now rules) ⌝ }
+    ensures { λ r. ⌜ r ≡ gain (meaning (now (scale .entry))) (at (now (lower .entry))) (at (now (upper .entry))) (map clause-of (now (rules .entry))) statement ⌝ }
+{
+    let mut gain = 0;
+    for rule in rules {
+        gain = scale.join(gain, rule_share(scale, rule, statement, lower, upper));
+    }
+    gain
 }
