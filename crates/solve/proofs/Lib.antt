@@ -1,5 +1,13 @@
+pub mod Books
+pub mod Checks
 pub mod Clips
+pub mod Determined
+pub mod Digits
+pub mod Findings
 pub mod Folds
 pub mod Gains
+pub mod Heights
 pub mod Parts
+pub mod Raises
 pub mod Rounds
+pub mod Searching

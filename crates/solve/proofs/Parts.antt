@@ -1,5 +1,5 @@
 -- What a rule that fits a scale, and a list of lawful rules, give of their parts.
-use mathlib.Core.Path.{_≡_}
+use mathlib.Core.Path.{_≡_, sym, subst}
 use mathlib.Core.Bool.{true, _&&_}
 use mathlib.Core.List.{List, [], _∷_, map}
 use Prim.Native.Nat.{ℕ, _+_, _<_}
@@ -36,6 +36,9 @@ gains m l u s rows = gain m l u (map clause-of rows) s
 module _ (m : Meaning) (n : ℕ) (rows : List Rule) (lawful : Rules m n rows) where
   pub rule-fits : (i : ℕ) (d : Rule) → i < length rows → fits (m .levels) (clause-of (getD rows i d)) ≡ true
   rule-fits i d h = all-getD (λ r. Lawful (m .levels) n (clause-of r)) rows i d h lawful .degrees
+
+  pub row-fits : (i : ℕ) (r : Rule) → i < length rows → r ≡ getD rows i r → fits (m .levels) (clause-of r) ≡ true
+  row-fits i r h e = let P : Rule → Type 0 = λ x. fits (m .levels) (clause-of x) ≡ true in subst P (sym e) (rule-fits i r h)
 
   pub rules-lawful : All (Lawful (m .levels) n) (map clause-of rows)
   rules-lawful = all-map (Lawful (m .levels) n) clause-of rows lawful

@@ -1,2 +1,4 @@
+pub mod Raisings
 pub mod Ready
+pub mod Searches
 pub mod Verdicts

@@ -37,7 +37,7 @@ pub(crate) fn first_difference(a: &[u8], b: &[u8]) -> Option<usize>
     None
 }
 
-fn same(a: &[u8], b: &[u8]) -> bool
+pub(crate) fn same(a: &[u8], b: &[u8]) -> bool
     requires { ⌜ length (now a) ≡ length (now b) ⌝ }
     ensures { λ r. ⌜ When r (now (a .entry) ≡ now (b .entry)) (now (a .entry) ≡ now (b .entry) → ⊥) ⌝ }
 {
@@ -48,7 +48,12 @@ fn same(a: &[u8], b: &[u8]) -> bool
 }
 
 // Writes the least model under `upper` to `lower`, and answers after how many rounds raising stands still there.
-pub(crate) fn least_model<S: Scale>(scale: &S, rules: &[Rule], upper: &[u8], lower: &mut [u8]) -> u32
+pub(crate) fn least_model<S: Scale>(
+    scale: &S,
+    rules: &[Rule],
+    upper: &[u8],
+    lower: &mut [u8],
+) -> u32
     requires { ⌜ Degrees (meaning (now scale)) (now upper) ⌝ ∗ ⌜ Rules (meaning (now scale)) (length (now upper)) (now rules) ⌝ ∗ ⌜ length (now lower) ≡ length (now upper) ⌝ ∗ ⌜ length (now upper) ≤ 16 ⌝ }
     ensures rounds { λ r. ⌜ Rounds (meaning (now (scale .entry))) (map clause-of (now (rules .entry))) (length (now (upper .entry))) (now (upper .entry)) r ⌝ }
     ensures after { λ r. ⌜ now (lower .exit) ≡ raised (meaning (now (scale .entry))) (map clause-of (now (rules .entry))) (length (now (upper .entry))) (now (upper .entry)) r ⌝ }

@@ -78,7 +78,10 @@ pub(crate) fn rule_holds<S: Scale>(scale: &S, rule: &Rule, lower: &[u8], upper: 
     requires { ⌜ Degrees (meaning (now scale)) (now lower) ⌝ ∗ ⌜ Degrees (meaning (now scale)) (now upper) ⌝ ∗ ⌜ fits (meaning (now scale) .levels) (clause-of (now rule)) ≡ true ⌝ }
     ensures { λ r. ⌜ r ≡ holds (meaning (now (scale .entry))) (at (now (lower .entry))) (at (now (upper .entry))) (clause-of (now (rule .entry))) ⌝ }
 {
-    scale.below(rule_yield(scale, rule, lower, upper), head_degree(rule.head, lower))
+    scale.below(
+        rule_yield(scale, rule, lower, upper),
+        head_degree(rule.head, lower),
+    )
 }
 
 // The degree of a head; a bound is its own.
@@ -103,7 +106,13 @@ fn rule_share<S: Scale>(scale: &S, rule: &Rule, statement: usize, lower: &[u8], 
 }
 
 // The join of what all rules demand of a statement.
-pub(crate) fn gain_of<S: Scale>(scale: &S, rules: &[Rule], statement: usize, lower: &[u8], upper: &[u8]) -> u8
+pub(crate) fn gain_of<S: Scale>(
+    scale: &S,
+    rules: &[Rule],
+    statement: usize,
+    lower: &[u8],
+    upper: &[u8],
+) -> u8
     requires { ⌜ Degrees (meaning (now scale)) (now lower) ⌝ ∗ ⌜ Degrees (meaning (now scale)) (now upper) ⌝ ∗ ⌜ Rules (meaning (now scale)) (length (now upper)) (now rules) ⌝ }
     ensures { λ r. ⌜ r ≡ gain (meaning (now (scale .entry))) (at (now (lower .entry))) (at (now (upper .entry))) (map clause-of (now (rules .entry))) statement ⌝ }
 {

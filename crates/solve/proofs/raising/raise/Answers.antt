@@ -1,15 +1,15 @@
-use mathlib.Core.Path.{_≡_, _∙_, sym}
+use mathlib.Core.Path.{_∙_}
 use mathlib.Core.Logic.{_≢_}
 use mathlib.Core.List.{map}
 use Prim.Native.Nat.{_<_}
 use native.Mathlib.Omega.{arith}
 use borrow.Author.Count.{below-more}
 use lib.ListN.{length}
-use Rattle.std.proofs.shelf.Lists.{ext-getD, getD-set-same, getD-set-other}
+use Rattle.std.proofs.shelf.Lists.{getD-set-same, getD-set-other}
 use Rattle.scale.specs.Meaning.{Laws}
 use Rattle.book.specs.Rows.{clause-of}
-use Rattle.theory.proofs.Raising.{raise-setting, at-raise}
 use Rattle.solve.proofs.Parts.{rules-within}
+use Rattle.solve.proofs.Raises.{raise-from-gains}
 use Rattle.solve.proofs.raising.raise.Needs as need
 
 pub loop-statement-again : need.loop-statement-again
@@ -25,11 +25,6 @@ pub returns : need.returns
 returns g c =
     let m = g .S·Scale .meaning (c .args .scale .now) in
     let laws : Laws m = g .S·Scale·met .lawful (c .args .scale .now) (omega (arith, c .pre .0 0)) in
-    let upper = c .args .upper .now in
-    let lower = c .args .lower .now in
-    let n = length upper in
-    let cs = map clause-of (c .args .rules .now) in
+    let n = length (c .args .upper .now) in
     let within = rules-within m n (c .args .rules .now) (c .pre .1 .1 .0) in
-    let long = raise-setting laws n cs within upper (c .pre .1 .0) lower (c .pre .0) .long in
-    let size : length (c .loop-statement .next) ≡ n = omega arith in
-    ext-getD 0 (c .loop-statement .next) _ (size ∙ sym long) (λ k h. c .loop-statement .inv k (omega arith) ∙ sym (at-raise laws n cs within upper lower k))
+    raise-from-gains laws n (map clause-of (c .args .rules .now)) within (c .args .upper .now) (c .args .lower .now) (c .pre .1 .0) (c .pre .0) (c .loop-statement .next) (omega arith) (λ k h. c .loop-statement .inv k (omega arith))

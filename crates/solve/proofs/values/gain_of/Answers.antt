@@ -1,14 +1,10 @@
-use mathlib.Core.Path.{_≡_, _∙_, ap, subst, sym}
-use mathlib.Core.Bool.{true}
+use mathlib.Core.Path.{_∙_, ap}
 use Prim.Native.Nat.{ℕ}
 use lib.ListN.{length}
 use native.Mathlib.Omega.{arith}
 use Rattle.scale.specs.Meaning.{Laws, clip}
-use Rattle.book.specs.Ledger.{fits}
-use Rattle.book.specs.Rows.{clause-of}
-use Rattle.book.specs.declared.rows.Rule.{Rule}
 use Rattle.solve.proofs.Gains.{gain-start, gain-step, gain-end}
-use Rattle.solve.proofs.Parts.{rule-fits}
+use Rattle.solve.proofs.Parts.{row-fits}
 use Rattle.solve.proofs.values.gain_of.Needs as need
 
 pub loop-rule-holds : need.loop-rule-holds
@@ -20,8 +16,7 @@ loop-rule-holds g c =
 pub rule-share-requires : need.rule-share-requires
 rule-share-requires g c κs =
     let m = g .S·Scale .meaning (c .args .scale .now) in
-    let P : Rule → Type 0 = λ r. fits (m .levels) (clause-of r) ≡ true in
-    (c .pre .0, (c .pre .1 .0, subst P (sym (c .rule-item .is)) (rule-fits m (length (c .args .upper .now)) (c .args .rules .now) (c .pre .1 .1) (c .loop-rule .rule-index) (c .rule-item .result) (c .loop-rule-test .taken))))
+    (c .pre .0, (c .pre .1 .0, row-fits m (length (c .args .upper .now)) (c .args .rules .now) (c .pre .1 .1) (c .loop-rule .rule-index) (c .rule-item .result) (c .loop-rule-test .taken) (c .rule-item .is)))
 
 pub loop-rule-again : need.loop-rule-again
 loop-rule-again g c =
