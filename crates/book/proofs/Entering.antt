@@ -27,6 +27,15 @@ first-met-more (c ∷ causes) more e = go (c .met) refl (first-met-more causes m
     go true t later = absurd (some-none (c .refusal) (sym (cond-true (c .met) _ _ t) ∙ e))
     go false t later = cond-false (c .met) _ _ t ∙ later (sym (cond-false (c .met) _ _ t) ∙ e)
 
+-- where one of some causes is met, further causes change nothing
+pub first-met-early : (causes more : List Cause) (e : Refusal) → first-met causes ≡ Some e → first-met (causes ++ more) ≡ Some e
+first-met-early [] more e found = absurd (some-none e (sym found))
+first-met-early (c ∷ causes) more e found = go (c .met) refl (first-met-early causes more e)
+  where
+    go : (b : Bool) → c .met ≡ b → (first-met causes ≡ Some e → first-met (causes ++ more) ≡ Some e) → first-met ((c ∷ causes) ++ more) ≡ Some e
+    go true t later = cond-true (c .met) _ _ t ∙ sym (cond-true (c .met) _ _ t) ∙ found
+    go false t later = cond-false (c .met) _ _ t ∙ later (sym (cond-false (c .met) _ _ t) ∙ found)
+
 pub pushed-kept : (levels statements : ℕ) (rows : List Rule) (r : Rule) (n : ℕ) → length rows ≡ n → kept levels statements r ≡ true → ((k : ℕ) (d : Rule) → k < n → kept levels statements (getD rows k d) ≡ true) → (k : ℕ) (d : Rule) → k < n + 1 → kept levels statements (getD (rows ++ r ∷ []) k d) ≡ true
 pushed-kept levels statements rows r n e new held k d l =
     let P : Rule → Type 0 = λ x. kept levels statements x ≡ true in

@@ -12,6 +12,7 @@ pub enum Refusal {
     BookFull = 11,
     NoSuchRule = 12,
     LevelsDiffer = 13,
+    StatementsDiffer = 14,
     PlaceLength = 15,
     TooManySettings = 16,
 }

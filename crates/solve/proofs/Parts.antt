@@ -29,6 +29,11 @@ fits-head m dl c e =
     let rest = and-parts (ltb (c .weight) (m .levels)) (head-fits (m .levels) (c .head) && every (literal-fits (m .levels)) (c .body)) e .1 in
     head-degree m dl (c .head) (and-parts (head-fits (m .levels) (c .head)) (every (literal-fits (m .levels)) (c .body)) rest .0)
 
+pub fits-body : (levels : ℕ) (c : Clause) → fits levels c ≡ true → every (literal-fits levels) (c .body) ≡ true
+fits-body levels c e =
+    let rest = and-parts (ltb (c .weight) levels) (head-fits levels (c .head) && every (literal-fits levels) (c .body)) e .1 in
+    and-parts (head-fits levels (c .head)) (every (literal-fits levels) (c .body)) rest .1
+
 -- what the rows of a table demand of a statement
 abbrev pub gains : Meaning → (ℕ → ℕ) → (ℕ → ℕ) → ℕ → List Rule → ℕ
 gains m l u s rows = gain m l u (map clause-of rows) s

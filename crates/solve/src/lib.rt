@@ -10,3 +10,4 @@ pub use judging::Verdict;
 pub use judging::check;
 pub use limits::most_rounds;
 pub use seeking::seek;
+pub use values::rule_holds;

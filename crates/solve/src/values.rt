@@ -31,8 +31,7 @@ pub(crate) fn top<S: Scale>(scale: &S) -> u8
 }
 
 fn literal_value<S: Scale>(scale: &S, literal: Literal, lower: &[u8], upper: &[u8]) -> u8
-    requires { ⌜ Degrees (meaning (now scale)) (now lower) ⌝ ∗ ⌜ Degrees (meaning (now scale)) (now upper) ⌝ ∗ ⌜ literal-fits (meaning (now scale) .levels) literal ≡ true ⌝ }
-    ensures { λ r. ⌜ r ≡ value (meaning (now (scale .entry))) (at (now (lower .entry))) (at (now (upper .entry))) literal ⌝ }
+    ensures { λ r. ⌜ (Degrees (meaning (now (scale .entry))) (now (lower .entry)) → Degrees (meaning (now (scale .entry))) (now (upper .entry)) → literal-fits (meaning (now (scale .entry)) .levels) literal ≡ true → r ≡ value (meaning (now (scale .entry))) (at (now (lower .entry))) (at (now (upper .entry))) literal) ⌝ }
 {
     match literal {
         Literal::Plain(s) => degree(lower, s),
@@ -55,8 +54,7 @@ pub(crate) fn times_body<S: Scale>(
     lower: &[u8],
     upper: &[u8],
 ) -> u8
-    requires { ⌜ Degrees (meaning (now scale)) (now lower) ⌝ ∗ ⌜ Degrees (meaning (now scale)) (now upper) ⌝ ∗ ⌜ start < meaning (now scale) .levels ⌝ ∗ ⌜ every (literal-fits (meaning (now scale) .levels)) (now body) ≡ true ⌝ }
-    ensures { λ r. ⌜ r ≡ meaning (now (scale .entry)) .product start (body-value (meaning (now (scale .entry))) (at (now (lower .entry))) (at (now (upper .entry))) (now (body .entry))) ⌝ }
+    ensures { λ r. ⌜ (Degrees (meaning (now (scale .entry))) (now (lower .entry)) → Degrees (meaning (now (scale .entry))) (now (upper .entry)) → start < meaning (now (scale .entry)) .levels → every (literal-fits (meaning (now (scale .entry)) .levels)) (now (body .entry)) ≡ true → r ≡ meaning (now (scale .entry)) .product start (body-value (meaning (now (scale .entry))) (at (now (lower .entry))) (at (now (upper .entry))) (now (body .entry)))) ⌝ }
 {
     let mut product = start;
     for literal in body {
@@ -67,16 +65,15 @@ pub(crate) fn times_body<S: Scale>(
 
 // How far a rule demands its head.
 pub(crate) fn rule_yield<S: Scale>(scale: &S, rule: &Rule, lower: &[u8], upper: &[u8]) -> u8
-    requires { ⌜ Degrees (meaning (now scale)) (now lower) ⌝ ∗ ⌜ Degrees (meaning (now scale)) (now upper) ⌝ ∗ ⌜ fits (meaning (now scale) .levels) (clause-of (now rule)) ≡ true ⌝ }
-    ensures { λ r. ⌜ r ≡ yield (meaning (now (scale .entry))) (at (now (lower .entry))) (at (now (upper .entry))) (clause-of (now (rule .entry))) ⌝ }
+    ensures { λ r. ⌜ (Degrees (meaning (now (scale .entry))) (now (lower .entry)) → Degrees (meaning (now (scale .entry))) (now (upper .entry)) → fits (meaning (now (scale .entry)) .levels) (clause-of (now (rule .entry))) ≡ true → r ≡ yield (meaning (now (scale .entry))) (at (now (lower .entry))) (at (now (upper .entry))) (clause-of (now (rule .entry)))) ⌝ }
 {
     times_body(scale, rule.weight, rule.body.literals(), lower, upper)
 }
 
-// Does the rule hold: is its yield below its head, or below its bound?
-pub(crate) fn rule_holds<S: Scale>(scale: &S, rule: &Rule, lower: &[u8], upper: &[u8]) -> bool
-    requires { ⌜ Degrees (meaning (now scale)) (now lower) ⌝ ∗ ⌜ Degrees (meaning (now scale)) (now upper) ⌝ ∗ ⌜ fits (meaning (now scale) .levels) (clause-of (now rule)) ≡ true ⌝ }
-    ensures { λ r. ⌜ r ≡ holds (meaning (now (scale .entry))) (at (now (lower .entry))) (at (now (upper .entry))) (clause-of (now (rule .entry))) ⌝ }
+// Does the rule hold: is its yield below its head, or below its bound? That is what is answered wherever the rows and the
+// rule have degrees of the scale only.
+pub fn rule_holds<S: Scale>(scale: &S, rule: &Rule, lower: &[u8], upper: &[u8]) -> bool
+    ensures { λ r. ⌜ (Degrees (meaning (now (scale .entry))) (now (lower .entry)) → Degrees (meaning (now (scale .entry))) (now (upper .entry)) → fits (meaning (now (scale .entry)) .levels) (clause-of (now (rule .entry))) ≡ true → r ≡ holds (meaning (now (scale .entry))) (at (now (lower .entry))) (at (now (upper .entry))) (clause-of (now (rule .entry)))) ⌝ }
 {
     scale.below(
         rule_yield(scale, rule, lower, upper),

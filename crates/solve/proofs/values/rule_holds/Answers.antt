@@ -9,9 +9,9 @@ use Rattle.solve.proofs.Parts.{fits-weight, fits-head}
 use Rattle.solve.proofs.values.rule_holds.Needs as need
 
 pub returns : need.returns
-returns g c =
+returns g c low high fit =
     let m = g .S·Scale .meaning (c .args .scale .now) in
     let rule = clause-of (c .args .rule .now) in
-    let weight = fits-weight (m .levels) rule (c .pre .1 .1) in
+    let weight = fits-weight (m .levels) rule fit in
     let laws : Laws m = g .S·Scale·met .lawful (c .args .scale .now) (omega (arith, weight)) in
-    c .below .ensures ∙ ap₂ (λ a b. m .below (clip m a) (clip m b)) (c .rule-yield .ensures) (c .head-degree .ensures) ∙ clip-both m (m .below) (yield-degree laws (c .pre .0) (c .pre .1 .0) rule weight) (fits-head m (c .pre .0) rule (c .pre .1 .1))
+    c .below .ensures ∙ ap₂ (λ a b. m .below (clip m a) (clip m b)) (c .rule-yield .ensures low high fit) (c .head-degree .ensures) ∙ clip-both m (m .below) (yield-degree laws low high rule weight) (fits-head m low rule fit)

@@ -7,6 +7,7 @@ use lib.Dec.{leb}
 use lib.ListN.{length, getD}
 use Rattle.std.specs.Of.Vec.{vec-items}
 use Rattle.std.proofs.shelf.Lists.{map-push}
+use Rattle.std.proofs.shelf.Results.{err-from-errBy}
 use Rattle.std.proofs.shelf.Tests.{le-leb, lt-leb}
 use Rattle.scale.specs.declared.refusal.Refusal.the-variants.{BookFull}
 use Rattle.scale.specs.Causes.{cause}
@@ -14,7 +15,7 @@ use Rattle.book.specs.Ledger.{clause}
 use Rattle.book.specs.Calls.{unlawful, with-rules}
 use Rattle.book.specs.Rows.{clause-of, kept}
 use Rattle.book.specs.View.{ledger-of}
-use Rattle.book.proofs.Entering.{first-met-more, pushed-kept}
+use Rattle.book.proofs.Entering.{first-met-early, first-met-more, pushed-kept}
 use Rattle.book.proofs.Sizes.{rules-length}
 use Rattle.book.proofs.books.Book.enter.Needs as need
 
@@ -43,3 +44,11 @@ returns c =
     let rules : map clause-of (vec-items (c .push-reserved .last .self)) ≡ ledger-of book .rules ++ rule ∷ [] =
     ap (map clause-of) (c .push-reserved .ensures .items) ∙ map-push clause-of (vec-items (book .table .rows)) (c .in-Continue-rule .rule) ∙ ap (λ x. ledger-of book .rules ++ x ∷ []) (c .in-Continue-rule .ensures tt .1) in
     record { answer = rw (lawful, room) refl; after = rw (lawful, room) (ap (with-rules (ledger-of book)) rules) }
+
+pub returns-in-Break-rule : need.returns-in-Break-rule
+returns-in-Break-rule c =
+    let book = c .args .self .now in
+    let rule = clause (c .args .head) (c .args .weight) (c .args .body .now) in
+    let passed = err-from-errBy (c .from-residual .result) (c .from-residual .ensures .1) in
+    let early = first-met-early (unlawful (book .levels) (book .statements) rule) (cause (leb 64 (length (ledger-of book .rules))) BookFull ∷ []) (c .in-Break-rule .field-0 .0) (c .in-Break-rule .ensures tt) in
+    record { answer = rw (passed .1, passed .2, early) refl; after = rw early refl }
