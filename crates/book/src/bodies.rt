@@ -1,5 +1,6 @@
 // How a body is made and read.
 ghost use mathlib.Core.Path.{_≡_};
+ghost use mathlib.Core.List.{[], _∷_};
 ghost use Rattle.scale.specs.declared.refusal.Refusal.the-variants.{BodyTooLong};
 ghost use Rattle.book.specs.Rows.{literals-of, Built};
 use super::rows::Body;
@@ -22,6 +23,25 @@ impl Body {
             literals: row,
             len: literals.len(),
         })
+    }
+
+    // The body of a fact, a rule that demands its weight.
+    pub fn empty() -> Body
+        ensures { λ r. ⌜ literals-of r ≡ [] ⌝ }
+    {
+        Body {
+            literals: [Literal::Plain(0); MOST_LITERALS],
+            len: 0,
+        }
+    }
+
+    pub fn single(literal: Literal) -> Body
+        ensures { λ r. ⌜ literals-of r ≡ literal ∷ [] ⌝ }
+    {
+        Body {
+            literals: [literal; MOST_LITERALS],
+            len: 1,
+        }
     }
 
     pub fn literals(&self) -> &[Literal]

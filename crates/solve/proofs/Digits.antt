@@ -19,6 +19,11 @@ power-more levels k = sym (ap (λ (j : ℕ). levels ^ j) (add-one k) ∙ pow-suc
 pub power-grows : (levels k n : ℕ) → 1 ≤ levels → k ≤ n → levels ^ k ≤ levels ^ n
 power-grows levels k n some h = pow-le-pow-right some h
 
+-- a product over something has a factor that is not 0
+pub factor-some : (a b most : ℕ) → most < a * b → 1 ≤ b
+factor-some a zero most h = absurd (omega (arith, h))
+factor-some a (suc b) most h = omega arith
+
 -- a number is its last digit and the rest of its digits, at any unit
 split : (digit others levels unit whole : ℕ) → digit + levels * others ≡ whole → digit * unit + others * (levels * unit) ≡ whole * unit
 split digit others levels unit whole e = let grown = ap (λ (x : ℕ). x * unit) e in omega arith

@@ -10,4 +10,5 @@ pub use judging::Verdict;
 pub use judging::check;
 pub use limits::most_rounds;
 pub use seeking::seek;
+pub use settings::setting_count;
 pub use values::rule_holds;

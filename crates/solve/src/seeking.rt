@@ -26,7 +26,7 @@ use scale::Refusal;
 use scale::Scale;
 
 // The most settings that seek goes through.
-const MOST_SETTINGS: u64 = 65_536;
+const MOST_SETTINGS: u32 = 65_536;
 
 // Does one raising leave the setting alone?
 fn stands<S: Scale>(scale: &S, rules: &[Rule], row: &[u8]) -> bool

@@ -7,18 +7,21 @@ ghost use Rattle.theory.specs.Position.{position};
 ghost use Rattle.solve.specs.Ready.{Under};
 
 // How many settings there are, levels to the power of the statements, where that is at most `most`.
-pub(crate) fn setting_count(levels: u8, statements: u8, most: u64) -> Option<u64>
-    requires { ⌜ 1 ≤ levels ⌝ ∗ ⌜ 1 ≤ most ⌝ ∗ ⌜ most ≤ 65536 ⌝ }
+pub fn setting_count(levels: u8, statements: u8, most: u32) -> Option<u64>
     ensures { λ r. ⌜ Cases r (most < levels ^ statements) (λ n. (n ≡ levels ^ statements) × (n ≤ most)) ⌝ }
 {
     let mut count = 1;
     for _ in 0..statements {
         count *= u64::from(levels);
-        if count > most {
+        if count > u64::from(most) {
             return None;
         }
     }
-    Some(count)
+    if count > u64::from(most) {
+        None
+    } else {
+        Some(count)
+    }
 }
 
 // Writes the setting of a position: its digits in base `levels`, the last statement's the lowest.

@@ -1,0 +1,3 @@
+pub mod Comparisons
+pub mod Differences
+pub mod Runs

@@ -1,0 +1,5 @@
+pub mod Degrees
+pub mod Digits
+pub mod Laying
+pub mod Numbers
+pub mod Whole
