@@ -10,7 +10,7 @@ use Rattle.book.specs.declared.rule.Head.the-variants.{Statement, Bound}
 use Rattle.book.specs.declared.rule.Literal.{Literal}
 use Rattle.book.specs.declared.rule.Literal.the-variants.{Plain, Above, Lacking}
 
--- a rule: how far its head must burn, by its weight and body
+-- a rule: the product of its weight and body stays below its head
 pub record Clause : Type 0 where
   pub head : Head
   pub weight : ℕ

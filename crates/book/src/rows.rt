@@ -14,7 +14,7 @@ pub struct Body {
     ghost short: { len ≤ 4 },
 }
 
-// A rule: its head burns at least as far as the product of its weight and body.
+// A rule: the product of its weight and body stays below its head, a statement's degree or a bound.
 #[derive(Clone, Copy)]
 pub struct Rule {
     pub head: Head,

@@ -1,4 +1,5 @@
-// Why a call was refused. The discriminant is the number that users see.
+// Why a call of the engine was refused. It stands in the lowest crate, since every crate above refuses by it. The
+// discriminant is the number that users see; 1 to 5 belong to reading text.
 ghost use mathlib.Core.Path.{_≡_};
 ghost use Rattle.scale.specs.Refusals.{number-of};
 

@@ -12,12 +12,12 @@ use Rattle.book.specs.declared.rows.Rule.{Rule}
 use Rattle.theory.specs.Semantics.{at, All}
 
 -- every degree of the row is below a number of levels
-abbrev pub Under : ℕ → List ℕ → Type 0
-Under levels row = (s : ℕ) → at row s < levels
+abbrev pub AllBelow : ℕ → List ℕ → Type 0
+AllBelow levels row = (s : ℕ) → at row s < levels
 
 -- every degree of the row is one of the scale's
 abbrev pub Degrees : Meaning → List ℕ → Type 0
-Degrees m row = Under (m .levels) row
+Degrees m row = AllBelow (m .levels) row
 
 -- every rule is lawful on the scale's levels and on n statements
 abbrev pub Rules : Meaning → ℕ → List Rule → Type 0

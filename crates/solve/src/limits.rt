@@ -6,7 +6,8 @@ use book::Book;
 use scale::Refusal;
 use scale::Scale;
 
-// The most rounds that raising a book's settings can take, statements × height.
+// The most rounds that raising a book's settings can take, statements × height. Its contract has what raising does under
+// every setting: it ascends, stands still in time, at the least model, and the scenes are the answer sets.
 pub fn most_rounds<S: Scale>(scale: &S, book: &Book) -> Result<u32, Refusal>
     ensures { λ r. ⌜ Answers (most-rounds-refusal (meaning (now (scale .entry))) (ledger-of (now (book .entry)))) r (Raisings (meaning (now (scale .entry))) (ledger-of (now (book .entry)) .rules) (ledger-of (now (book .entry)) .statements)) ⌝ }
 {

@@ -4,7 +4,7 @@ ghost use Prim.Native.Nat.{_<_, _≤_, _^_};
 ghost use lib.ListN.{length};
 ghost use Rattle.std.specs.Options.{Cases};
 ghost use Rattle.theory.specs.Position.{position};
-ghost use Rattle.solve.specs.Ready.{Under};
+ghost use Rattle.solve.specs.Ready.{AllBelow};
 
 // How many settings there are, levels to the power of the statements, where that is at most `most`.
 pub fn setting_count(levels: u8, statements: u8, most: u32) -> Option<u64>
@@ -28,7 +28,7 @@ pub fn setting_count(levels: u8, statements: u8, most: u32) -> Option<u64>
 pub(crate) fn write_setting(row: &mut [u8], levels: u8, place: u64)
     requires { ⌜ 0 < levels ⌝ ∗ ⌜ place < levels ^ length (now row) ⌝ }
     ensures position { λ _. ⌜ position levels (now (row .exit)) ≡ place ⌝ }
-    ensures degrees { λ _. ⌜ Under levels (now (row .exit)) ⌝ }
+    ensures degrees { λ _. ⌜ AllBelow levels (now (row .exit)) ⌝ }
 {
     let base = u64::from(levels);
     let mut rest = place;

@@ -83,11 +83,3 @@ cycle lower upper ts = chain lower upper (last-of 0 ts) ts
 -- the rows differ, so that where one of them rises all of them reach their upper degree.
 abbrev pub addendum : ℕ → List ℕ → List ℕ → List Clause
 addendum n lower upper = facts n lower ++ cycle lower upper (differing n lower upper)
-
--- the scenes are the equilibria
-abbrev pub Scenes-are-equilibria : Type 0
-Scenes-are-equilibria = (m : Meaning) → Laws m → (n : ℕ) (cs : List Clause) → All (Lawful (m .levels) n) cs → (row : List ℕ) → Setting m n row → Scene m cs n row ↔ Equilibrium m n cs row
-
--- rules are strongly equivalent exactly when they have the same pairs
-abbrev pub Strong-equivalence-is-same-pairs : Type 0
-Strong-equivalence-is-same-pairs = (m : Meaning) → Laws m → (n : ℕ) (first second : List Clause) → All (Lawful (m .levels) n) first → All (Lawful (m .levels) n) second → StronglyEquivalent m n first second ↔ SamePairs m n first second

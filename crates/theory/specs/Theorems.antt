@@ -7,7 +7,6 @@ use Rattle.scale.specs.Meaning.{Meaning, Laws}
 use Rattle.book.specs.Ledger.{Clause, Lawful}
 use Rattle.theory.specs.Semantics.{Setting, All, raised, Rounds, Scene}
 use Rattle.theory.specs.AnswerSet.{Under, LeastUnder, AnswerSet}
-use Rattle.theory.specs.Position.{position}
 
 -- every raising ends at or over where it began
 abbrev pub Raising-ascends : Type 0
@@ -24,11 +23,3 @@ Least-model-stands = (m : Meaning) → Laws m → (n : ℕ) (cs : List Clause) �
 -- the scenes are the fuzzy answer sets
 abbrev pub Scenes-are-answer-sets : Type 0
 Scenes-are-answer-sets = (m : Meaning) → Laws m → (n : ℕ) (cs : List Clause) → All (Lawful (m .levels) n) cs → (row : List ℕ) → Setting m n row → Scene m cs n row ↔ AnswerSet m n cs row
-
--- every setting has a position below levels ^ statements
-abbrev pub Positions-fit : Type 0
-Positions-fit = (m : Meaning) → Laws m → (n : ℕ) (row : List ℕ) → Setting m n row → position (m .levels) row < m .levels ^ n
-
--- no two settings share a position
-abbrev pub Positions-tell-apart : Type 0
-Positions-tell-apart = (m : Meaning) → Laws m → (n : ℕ) (a b : List ℕ) → Setting m n a → Setting m n b → position (m .levels) a ≡ position (m .levels) b → a ≡ b
