@@ -85,16 +85,16 @@ module _ {m : Meaning} (laws : Laws m) where
   zeros-setting n = record { long = length-replicate n 0; degrees = λ s. rw (zeros-at n s) (zero-degree laws) }
 
   module _ (n : ℕ) (cs : List Clause) (hs : All (Within (m .levels) n) cs) where
-    -- a raised row gives each statement what the rules demand of it
+    -- a raised row gives each statement what the rules want of it
     pub at-raise : (upper lower : List ℕ) (s : ℕ) → at (raise m cs n upper lower) s ≡ gain m (at lower) (at upper) cs s
     at-raise upper lower s = go (cases-lt s n)
       where
-        demand : ℕ → ℕ
-        demand t = gain m (at lower) (at upper) cs t
+        wanted : ℕ → ℕ
+        wanted t = gain m (at lower) (at upper) cs t
 
-        go : ((s < n) ⊎ (n ≤ s)) → at (map demand (counting 0 n)) s ≡ demand s
-        go (inl h) = counted-at demand 0 n s h ∙ ap demand (omega arith)
-        go (inr h) = getD-past (map demand (counting 0 n)) s 0 (rw (counted-length demand 0 n) h) ∙ sym (gain-past laws (at lower) (at upper) n cs hs s h)
+        go : ((s < n) ⊎ (n ≤ s)) → at (map wanted (counting 0 n)) s ≡ wanted s
+        go (inl h) = counted-at wanted 0 n s h ∙ ap wanted (omega arith)
+        go (inr h) = getD-past (map wanted (counting 0 n)) s 0 (rw (counted-length wanted 0 n) h) ∙ sym (gain-past laws (at lower) (at upper) n cs hs s h)
 
     module _ (upper : List ℕ) (du : Degrees m (at upper)) where
       pub raise-setting : (lower : List ℕ) → Degrees m (at lower) → Setting m n (raise m cs n upper lower)
