@@ -4,19 +4,14 @@ use mathlib.Core.Logic.{⊎-elim}
 use mathlib.Core.List.{List}
 use Prim.Native.Nat.{ℕ, _+_, _<_, _≤_}
 use native.Mathlib.Omega.{arith}
-use mathlib.Core.Bool.{true}
-use Rattle.std.proofs.shelf.Tests.{cases-lt, false≢true}
-use Rattle.std.specs.Options.{isSome}
+use Rattle.std.proofs.shelf.Tests.{cases-lt}
 use Rattle.std.specs.declared.option.Option.{Option}
-use Rattle.std.specs.declared.option.Option.the-variants.{None, Some}
 use Rattle.scale.specs.Meaning.{Meaning, Laws}
 use Rattle.book.specs.Ledger.{Clause, Lawful}
-use Rattle.theory.specs.AnswerSet.{AnswerSet}
 use Rattle.theory.specs.Position.{position}
 use Rattle.theory.specs.Semantics.{All, Setting, Scene}
 use Rattle.theory.proofs.Positions.{position-apart}
-use Rattle.theory.proofs.Ranges.{all-within}
-use Rattle.theory.proofs.Reducts.{scene-answers}
+use Rattle.theory.proofs.Theorems.{scenes-are-answer-sets}
 use Rattle.solve.specs.Searches.{NoSceneBetween, Sought, Found}
 use Rattle.solve.proofs.Determined.{sought-once}
 
@@ -30,13 +25,9 @@ passed-one m cs n start p row setting here none before other there from until sc
     (cases-lt (position (m .levels) other) p)
 
 module _ {m : Meaning} (laws : Laws m) (n : ℕ) (cs : List Clause) (lawful : All (Lawful (m .levels) n) cs) (start : ℕ) (before : List ℕ) where
-  is-answer-set : (after : List ℕ) (found : Option (ℕ × ℕ)) → Sought m cs n start before after found → isSome found ≡ true → AnswerSet m n cs after
-  is-answer-set after None sought e = absurd (false≢true e)
-  is-answer-set after (Some f) sought e = scene-answers laws n cs (all-within (m .levels) n cs lawful) after (sought .setting) (f .1, sought .scene)
-
   pub finds : {after : List ℕ} (found : Option (ℕ × ℕ)) → Sought m cs n start before after found → Found m cs n start before after found
-  finds {after} found sought = record {
+  finds found sought = record {
     sought = sought;
     only = λ row other s. sought-once m n cs start before other found s sought;
-    answer-set = is-answer-set after found sought;
+    answer-sets = scenes-are-answer-sets m laws n cs lawful;
   }

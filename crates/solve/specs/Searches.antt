@@ -1,7 +1,8 @@
 -- What seek answers: the first scene at or after a start, and its place afterwards.
 use mathlib.Core.Path.{_≡_}
-use mathlib.Core.Bool.{true, not}
+use mathlib.Core.Bool.{not}
 use mathlib.Core.List.{List, [], _∷_}
+use mathlib.Core.Logic.{_↔_}
 use Prim.Native.Nat.{ℕ, _^_, _<_, _≤_}
 use lib.Dec.{ltb, eqb}
 use lib.ListN.{length}
@@ -12,7 +13,6 @@ use Rattle.scale.specs.declared.refusal.Refusal.the-variants.{LevelsDiffer, Pla
 use Rattle.scale.specs.Causes.{cause, first-met}
 use Rattle.scale.specs.Meaning.{Meaning}
 use Rattle.book.specs.Ledger.{Clause, Ledger}
-use Rattle.std.specs.Options.{isSome}
 use Rattle.theory.specs.AnswerSet.{AnswerSet}
 use Rattle.theory.specs.Position.{position}
 use Rattle.theory.specs.Semantics.{Setting, Scene, SceneAfter}
@@ -42,9 +42,9 @@ abbrev pub Sought : Meaning → List Clause → ℕ → ℕ → List ℕ → Lis
 Sought m cs n start before after None = (after ≡ before) × NoSceneBetween m cs n start (m .levels ^ n)
 Sought m cs n start before after (Some found) = FirstScene m cs n start after (found .0) (found .1)
 
--- What a granted seek says: its answer and its place afterwards, which are the only ones; and that what it finds is a
--- fuzzy answer set.
+-- What a granted seek says: its answer and its place afterwards, which are the only ones; and that the scenes it goes
+-- through are exactly the fuzzy answer sets.
 pub record Found (m : Meaning) (cs : List Clause) (n start : ℕ) (before after : List ℕ) (found : Option (ℕ × ℕ)) : Type 0 where
   pub sought : Sought m cs n start before after found
   pub only : (row : List ℕ) (other : Option (ℕ × ℕ)) → Sought m cs n start before row other → (other ≡ found) × (row ≡ after)
-  pub answer-set : isSome found ≡ true → AnswerSet m n cs after
+  pub answer-sets : (row : List ℕ) → Setting m n row → Scene m cs n row ↔ AnswerSet m n cs row
