@@ -1,4 +1,6 @@
 // Rule books and the calls that change them.
+#![tactic(auto)]
+
 mod bodies;
 mod books;
 mod calls;

@@ -1,4 +1,6 @@
 // The worked books of specs/Books, and that all that is claimed of them is so.
+#![tactic(auto)]
+
 ghost use Rattle.std.specs.Prelude.{◌≡◌, length};
 ghost use Rattle.std.specs.List.{AllByRecursion as All};
 ghost use Rattle.cases.specs.Books.{cases};

@@ -1,5 +1,7 @@
 // Compares the rule books in two files: whether they have the same scenes whatever rules are added to both; and where
 // they do not, rules and a setting that tell them apart.
+#![tactic(auto)]
+
 mod prints;
 
 use anyhow::anyhow;

@@ -1,5 +1,7 @@
 // What the programs share: texts of books are read, and lines and refusals printed. Nothing is proved of it but that it
 // is safe and returns, since no contract speaks of what a program reads or prints.
+#![tactic(auto)]
+
 mod inputs;
 mod prints;
 mod words;

@@ -1,4 +1,6 @@
 // Comparing books, and runs of calls on two of them.
+#![tactic(auto)]
+
 mod addenda;
 mod answers;
 mod calls;

@@ -1,4 +1,6 @@
 // One line of a text: its tokens, and what it says.
+#![tactic(auto)]
+
 mod bodies;
 mod bytes;
 mod checks;

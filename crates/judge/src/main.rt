@@ -1,5 +1,7 @@
 // Judges a setting of the rule book in a file: whether it is a scene, breaks a rule, or has a statement that the rules do
 // not support; and then, for the fitter, which rule or statement that is and by how much.
+#![tactic(auto)]
+
 mod prints;
 
 use anyhow::anyhow;

@@ -1,4 +1,6 @@
 // Lines of output, written into a place that the caller gives.
+#![tactic(auto)]
+
 mod cursors;
 mod lines;
 

@@ -1,4 +1,6 @@
 // Scales of degrees: the interface that the engine is generic over, and the three kinds that come with it.
+#![tactic(auto)]
+
 ghost use Rattle.std.specs.Prelude.{◌≡◌, ◌<◌};
 ghost use Rattle.scale.specs.Meaning.{Meaning, Laws, clipped};
 

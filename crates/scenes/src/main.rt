@@ -1,6 +1,8 @@
 // Reads a rule book from standard input and prints its scenes, a line each: position, rounds, degrees; and then how many
 // there are. A book that is refused prints one line, with the number and the place of the fault, and on standard error
 // what it means.
+#![tactic(auto)]
+
 use anyhow::anyhow;
 use book::Book;
 use console::{Stop, end, finish, print_fault, print_line, read_input};

@@ -1,4 +1,6 @@
 // A session on two books: it makes them, does a list of calls on them in one run, and prints what each call answered.
+#![tactic(auto)]
+
 use anyhow::anyhow;
 use book::{Body, Book, Head, Literal, Rule};
 use engine::{Call, Comparison, Outcome, RunError, Which, run};

@@ -1,4 +1,6 @@
 // Judging settings and finding scenes, on any scale.
+#![tactic(auto)]
+
 mod judging;
 mod limits;
 mod raising;

@@ -1,4 +1,6 @@
 // Rule books as text: what a text says is put into a book, or the first fault of the text is named.
+#![tactic(auto)]
+
 mod drafts;
 mod entries;
 mod lines;

@@ -1,5 +1,7 @@
 // Runs the engine over the cases of three files, whose answers other programs have found, and of three with wrong answers,
 // and prints of each file how many of its cases agree. A case that cannot be parsed does not.
+#![tactic(auto)]
+
 mod books;
 mod cases;
 mod hex;

@@ -9,15 +9,15 @@ returns c =
     let lower = c.args.lower.now in
     let upper = c.args.upper.now in
     let n = length lower in
-    let place = c.write-chain.new.addendum in
-    let facts-place = c.write-facts.new.addendum in
-    let k = c.write-chain.result in
+    let place = c.write_chain.new.addendum in
+    let facts-place = c.write_facts.new.addendum in
+    let k = c.write_chain.result in
     let room : k ≤ length place = omega arith in
-    let written : map clause_of (take k place) ≡ addendum n lower upper = addendum_from lower upper n c.last-differing.result (map clause_of (take n facts-place)) (map clause_of (take k place)) c.write-chain.ensures.written c.write-facts.ensures.written c.last-differing.ensures in
+    let written : map clause_of (take k place) ≡ addendum n lower upper = addendum_from lower upper n c.last_differing.result (map clause_of (take n facts-place)) (map clause_of (take k place)) c.write_chain.ensures.written c.write_facts.ensures.written c.last_differing.ensures in
     record {
       count = written_count place k (addendum n lower upper) room written;
       written = written;
-      rest = c.write-chain.ensures.rest ∙ rest_past c.args.addendum.now facts-place n k c.write-chain.ensures.least c.write-facts.ensures.rest;
+      rest = c.write_chain.ensures.rest ∙ rest_past c.args.addendum.now facts-place n k c.write_chain.ensures.least c.write_facts.ensures.rest;
       size = omega arith;
-      few = c.write-chain.ensures.few;
+      few = c.write_chain.ensures.few;
     }

@@ -23,9 +23,9 @@ loop-preserved g c =
     let setting : Setting m n row = record { long = refl; degrees = c.loop.invariant.1 } in
     let count : c.args.count ≡ m.levels ^ n = c.requires.0.whole ∙ ap (λ (j : ℕ). m.levels ^ j) (sym c.loop.auto.upper) in
     let here = c.loop.invariant.3.inside c.loop-test.true in
-    let agreed = c.in-default.ensures.found in
+    let agreed = c.in_default.ensures.found in
     let passed = passed_more m n k T row setting here agreed.1 c.loop.invariant.4 in
-    (c.in-default.ensures.degrees, step.degrees, agreed.0, at_next m c.args.count k row next count c.loop-test.true c.loop.invariant.3 step, subst (λ (j : ℕ). Passed m j (k + 1) (Agree m j (map clause_of c.args.first.now) (map clause_of c.args.second.now))) (sym c.advance.auto.row) passed)
+    (c.in_default.ensures.degrees, step.degrees, agreed.0, at_next m c.args.count k row next count c.loop-test.true c.loop.invariant.3 step, subst (λ (j : ℕ). Passed m j (k + 1) (Agree m j (map clause_of c.args.first.now) (map clause_of c.args.second.now))) (sym c.advance.auto.row) passed)
 
 pub returns : goal.returns
 returns g c =

@@ -23,7 +23,7 @@ loop-preserved g c =
     let setting : Setting m n row = record { long = long; degrees = c.loop.invariant.0 } in
     let count : c.args.count ≡ m.levels ^ length row = c.requires.whole ∙ subst (λ (j : ℕ). m.levels ^ n ≡ m.levels ^ j) (sym long) refl in
     let here = c.loop.invariant.1.inside c.loop-test.true in
-    (step.degrees, at_next m c.args.count k row c.advance.new.row count c.loop-test.true c.loop.invariant.1 step, passed_more m n k T row setting here c.in-default.ensures c.loop.invariant.2)
+    (step.degrees, at_next m c.args.count k row c.advance.new.row count c.loop-test.true c.loop.invariant.1 step, passed_more m n k T row setting here c.in_default.ensures c.loop.invariant.2)
 
 pub returns : goal.returns
 returns g c =

@@ -8,10 +8,10 @@ pub loop-call-preserved : goal.loop-call-preserved
 loop-call-preserved g c = (
   tt,
   tt,
-  room_turn (vec_len c.loop-call.outcomes) (vec_len c.push-reserved.new.self)
+  room_turn (vec_len c.loop-call.outcomes) (vec_len c.push_reserved.new.self)
       (into_iter_len c.loop-call.call-iterator) (into_iter_len c.next.new.self)
-      (vec_capacity c.loop-call.outcomes) (vec_capacity c.push-reserved.new.self)
-      c.in-Some.ensures.steps.1 c.push-reserved.ensures.len c.push-reserved.ensures.capacity
+      (vec_capacity c.loop-call.outcomes) (vec_capacity c.push_reserved.new.self)
+      c.in-Some.ensures.steps.1 c.push_reserved.ensures.len c.push_reserved.ensures.capacity
       c.loop-call.invariant.2,
   left_turn (into_iter_items c.loop-call.call-iterator) (into_iter_items c.next.new.self) c.in-Some.call
       (into_iter_len c.loop-call.call-iterator) (into_iter_len c.next.new.self)
@@ -20,9 +20,9 @@ loop-call-preserved g c = (
       (ledgers_of c.loop-call.first c.loop-call.second) (ledgers_of c.step.new.first c.step.new.second)
       (into_iter_items c.into-iter-call-iterator.result)
       (into_iter_items c.loop-call.call-iterator) (into_iter_items c.next.new.self) c.in-Some.call
-      c.step.result (vec_items c.loop-call.outcomes) (vec_items c.push-reserved.new.self)
+      c.step.result (vec_items c.loop-call.outcomes) (vec_items c.push_reserved.new.self)
       c.in-Some.ensures.steps.0 c.step.ensures.changes c.step.ensures.answer
-      c.push-reserved.ensures.items c.loop-call.invariant.4,
+      c.push_reserved.ensures.items c.loop-call.invariant.4,
   ledgers_turn
       (after_all (into_iter_items c.into-iter-call-iterator.result) (ledgers_of c.args.first.now c.args.second.now))
       (ledgers_of c.loop-call.first c.loop-call.second) (ledgers_of c.step.new.first c.step.new.second)

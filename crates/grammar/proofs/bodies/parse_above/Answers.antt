@@ -11,14 +11,14 @@ over_none p e = ap (λ x. then x (λ n. then p (λ d. Some (over n d)))) e
 over_some : {o p q : Option (List ℕ)} {n : List ℕ} → Some n ≡ o → q ≡ p → then q (λ d. Some (over n d)) ≡ then o (λ m. then p (λ d. Some (over m d)))
 over_some {o} {p} {q} {n} e f = ap (λ y. then y (λ d. Some (over n d))) f ∙ ap (λ x. then x (λ m. then p (λ d. Some (over m d)))) e
 
-pub returns-then-not-is-sign : goal.returns-then-not-is-sign
-returns-then-not-is-sign c = sym (cond-false _ _ _ (sym c.if-not-is-sign.ensures))
+pub returns-then-not-is_sign : goal.returns-then-not-is_sign
+returns-then-not-is_sign c = sym (cond-false _ _ _ (sym c.if-not-is_sign.ensures))
 
-pub returns-in-err-name-in : goal.returns-in-err-name-in
-returns-in-err-name-in c = ap (option_map seen_term) c.from-residual.ensures ∙ over_none _ c.in-err-name-in.ensures ∙ sym (cond-true _ _ _ (sym c.if-not-is-sign.ensures))
+pub returns-in_err-name_in : goal.returns-in_err-name_in
+returns-in_err-name_in c = ap (option_map seen_term) c.from_residual.ensures ∙ over_none _ c.in_err-name_in.ensures ∙ sym (cond-true _ _ _ (sym c.if-not-is_sign.ensures))
 
-pub returns-in-err-number-in : goal.returns-in-err-number-in
-returns-in-err-number-in c = ap (option_map seen_term) c.from-residual-in-err-number-in.ensures ∙ over_some c.in-ok-name-in.ensures c.in-err-number-in.ensures ∙ sym (cond-true _ _ _ (sym c.if-not-is-sign.ensures))
+pub returns-in_err-number_in : goal.returns-in_err-number_in
+returns-in_err-number_in c = ap (option_map seen_term) c.from_residual-in_err-number_in.ensures ∙ over_some c.in_ok-name_in.ensures c.in_err-number_in.ensures ∙ sym (cond-true _ _ _ (sym c.if-not-is_sign.ensures))
 
 pub returns : goal.returns
-returns c = over_some c.in-ok-name-in.ensures c.in-ok-number-in.ensures ∙ sym (cond-true _ _ _ (sym c.if-not-is-sign.ensures))
+returns c = over_some c.in_ok-name_in.ensures c.in_ok-number_in.ensures ∙ sym (cond-true _ _ _ (sym c.if-not-is_sign.ensures))

@@ -10,8 +10,8 @@ use Rattle.grammar.proofs.bodies.parse_body.Goals as goal
 pub returns-in-empty : goal.returns-in-empty
 returns-in-empty c = ap (λ l. Some (map seen_term l)) c.new.ensures.items ∙ sym (ap body_of (none said c.args.tokens.now (search rules)))
 
-pub returns-else-not-is-sign : goal.returns-else-not-is-sign
-returns-else-not-is-sign c =
-    IfOk-weaker c.parse-terms.result _ _
-    (λ l e. e ∙ sym (cond-true _ _ _ (sym c.if-not-is-sign.ensures)) ∙ sym (ap body_of (first_and said c.args.tokens.now nothing (search rules))))
-    c.parse-terms.ensures
+pub returns-else-not-is_sign : goal.returns-else-not-is_sign
+returns-else-not-is_sign c =
+    IfOk-weaker c.parse_terms.result _ _
+    (λ l e. e ∙ sym (cond-true _ _ _ (sym c.if-not-is_sign.ensures)) ∙ sym (ap body_of (first_and said c.args.tokens.now nothing (search rules))))
+    c.parse_terms.ensures

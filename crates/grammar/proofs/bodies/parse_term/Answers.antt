@@ -6,7 +6,7 @@ use Rattle.grammar.specs.Tokens.{said}
 use Rattle.grammar.specs.declared.tokens.Token.{Token}
 use Rattle.grammar.proofs.Fixed.{nothing, one, two, three}
 use Rattle.grammar.proofs.bodies.parse_term.Goals as goal
-use Rattle.grammar.proofs.bodies.parse_term.Goals.{in-default-via-then-part-lt1, in-default-via-else-part-lt1+else-part-lt2+else-part-lt3+else-part-lt4}
+use Rattle.grammar.proofs.bodies.parse_term.Goals.{in_default-via-then-part-lt1, in_default-via-else-part-lt1+else-part-lt2+else-part-lt3+else-part-lt4}
 
 few : (ts : List Token) → length ts ≡ 0 → None ≡ term_of (map said ts)
 few [] e = refl
@@ -19,17 +19,17 @@ many (a ∷ b ∷ []) e = absurd (omega arith)
 many (a ∷ b ∷ c ∷ []) e = absurd (omega arith)
 many (a ∷ b ∷ c ∷ d ∷ ts) e = refl
 
-pub returns-in-err-name-in : goal.returns-in-err-name-in
-returns-in-err-name-in c = ap (option_map seen_term) c.from-residual.ensures ∙ ap (λ o. then o (λ n. Some (plain n))) c.in-err-name-in.ensures ∙ sym (ap term_of (one said c.args.part.now nothing (search rules)))
+pub returns-in_err-name_in : goal.returns-in_err-name_in
+returns-in_err-name_in c = ap (option_map seen_term) c.from_residual.ensures ∙ ap (λ o. then o (λ n. Some (plain n))) c.in_err-name_in.ensures ∙ sym (ap term_of (one said c.args.part.now nothing (search rules)))
 
-pub returns-in-ok-name-in : goal.returns-in-ok-name-in
-returns-in-ok-name-in c = ap (λ o. then o (λ n. Some (plain n))) c.in-ok-name-in.ensures ∙ sym (ap term_of (one said c.args.part.now nothing (search rules)))
+pub returns-in_ok-name_in : goal.returns-in_ok-name_in
+returns-in_ok-name_in c = ap (λ o. then o (λ n. Some (plain n))) c.in_ok-name_in.ensures ∙ sym (ap term_of (one said c.args.part.now nothing (search rules)))
 
 pub returns-in-len2 : goal.returns-in-len2
-returns-in-len2 c = c.parse-lacking.ensures ∙ sym (ap term_of (two said c.args.part.now nothing (search rules)))
+returns-in-len2 c = c.parse_lacking.ensures ∙ sym (ap term_of (two said c.args.part.now nothing (search rules)))
 
 pub returns-in-len3 : goal.returns-in-len3
-returns-in-len3 c = c.parse-above.ensures ∙ sym (ap term_of (three said c.args.part.now nothing (search rules)))
+returns-in-len3 c = c.parse_above.ensures ∙ sym (ap term_of (three said c.args.part.now nothing (search rules)))
 
-pub returns-in-default : goal.returns-in-default
-returns-in-default c = elim c.in-default.branch [ in-default-via-then-part-lt1 w ↦ few c.args.part.now (search rules) | in-default-via-else-part-lt1+else-part-lt2+else-part-lt3+else-part-lt4 w ↦ many c.args.part.now (search rules) ]
+pub returns-in_default : goal.returns-in_default
+returns-in_default c = elim c.in_default.branch [ in_default-via-then-part-lt1 w ↦ few c.args.part.now (search rules) | in_default-via-else-part-lt1+else-part-lt2+else-part-lt3+else-part-lt4 w ↦ many c.args.part.now (search rules) ]

@@ -22,14 +22,14 @@ pub loop-n-preserved : goal.loop-n-preserved
 loop-n-preserved c =
     let here = said (get_or c.args.tokens.now c.loop-n.n nothing) in
     let more : prefix_len (other is_comma) (map said (drop c.loop-n.n c.args.tokens.now)) ≡ 1 + prefix_len (other is_comma) (map said (drop (c.loop-n.n + 1) c.args.tokens.now)) =
-    at_drop_more (λ l. prefix_len (other is_comma) (map said l)) c.args.tokens.now c.loop-n.n nothing c.loop-n-test.true ∙ cond-true (other is_comma here) (1 + prefix_len (other is_comma) (map said (drop (c.loop-n.n + 1) c.args.tokens.now))) 0 (ap not (sym (comma here) ∙ sym c.if-not-is-sign.ensures)) in
+    at_drop_more (λ l. prefix_len (other is_comma) (map said l)) c.args.tokens.now c.loop-n.n nothing c.loop-n-test.true ∙ cond-true (other is_comma here) (1 + prefix_len (other is_comma) (map said (drop (c.loop-n.n + 1) c.args.tokens.now))) 0 (ap not (sym (comma here) ∙ sym c.if-not-is_sign.ensures)) in
     (omega arith, omega (arith, c.loop-n.invariant.1, more))
 
-pub returns-else-not-is-sign : goal.returns-else-not-is-sign
-returns-else-not-is-sign c =
+pub returns-else-not-is_sign : goal.returns-else-not-is_sign
+returns-else-not-is_sign c =
     let here = said (get_or c.args.tokens.now c.loop-n.n nothing) in
     let stop : prefix_len (other is_comma) (map said (drop c.loop-n.n c.args.tokens.now)) ≡ 0 =
-    at_drop_more (λ l. prefix_len (other is_comma) (map said l)) c.args.tokens.now c.loop-n.n nothing c.loop-n-test.true ∙ cond-false (other is_comma here) (1 + prefix_len (other is_comma) (map said (drop (c.loop-n.n + 1) c.args.tokens.now))) 0 (ap not (sym (comma here) ∙ sym c.if-not-is-sign.ensures)) in
+    at_drop_more (λ l. prefix_len (other is_comma) (map said l)) c.args.tokens.now c.loop-n.n nothing c.loop-n-test.true ∙ cond-false (other is_comma here) (1 + prefix_len (other is_comma) (map said (drop (c.loop-n.n + 1) c.args.tokens.now))) 0 (ap not (sym (comma here) ∙ sym c.if-not-is_sign.ensures)) in
     omega (arith, c.loop-n.invariant.1, stop)
 
 pub returns-after-loop-n : goal.returns-after-loop-n

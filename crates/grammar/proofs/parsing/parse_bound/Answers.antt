@@ -12,12 +12,12 @@ few [] e = refl
 few (a ∷ []) e = refl
 few (a ∷ b ∷ ts) e = absurd (omega arith)
 
-pub returns-in-default : goal.returns-in-default
-returns-in-default c = few c.args.tokens.now (search rules)
+pub returns-in_default : goal.returns-in_default
+returns-in_default c = few c.args.tokens.now (search rules)
 
-pub returns-in-Some-number-in : goal.returns-in-Some-number-in
-returns-in-Some-number-in c =
+pub returns-in-Some-number_in : goal.returns-in-Some-number_in
+returns-in-Some-number_in c =
     let ts = c.args.tokens.now in
-    IfOk-weaker c.parse-led.result _ _
-    (λ l e. e ∙ both_then (number_of (said (get_or ts 0 nothing))) (number_of (said (get_or ts 1 nothing))) (λ a b. led_by (bound a) b (map said (take (length ts - 2) (drop 2 ts)))) c.in-Some.degree.now c.in-Some-number-in.weight.now c.in-Some.ensures c.in-Some-number-in.ensures ∙ sym (ap bound_line_of (two_and said ts nothing (search rules))))
-    c.parse-led.ensures
+    IfOk-weaker c.parse_led.result _ _
+    (λ l e. e ∙ both_then (number_of (said (get_or ts 0 nothing))) (number_of (said (get_or ts 1 nothing))) (λ a b. led_by (bound a) b (map said (take (length ts - 2) (drop 2 ts)))) c.in-Some.degree.now c.in-Some-number_in.weight.now c.in-Some.ensures c.in-Some-number_in.ensures ∙ sym (ap bound_line_of (two_and said ts nothing (search rules))))
+    c.parse_led.ensures

@@ -11,6 +11,6 @@ returns-in-empty c = sym (ap line_of (none said c.args.tokens.now (search rules)
 pub returns-in-len1-up : goal.returns-in-len1-up
 returns-in-len1-up c =
     let ts = c.args.tokens.now in
-    IfOk-weaker c.parse-by.result _ _
-    (λ l e. e ∙ ap (λ v. line_by v (map said (take (length ts - 1) (drop 1 ts)))) c.verb-in.ensures ∙ sym (ap line_of (first_and said ts nothing (search rules))))
-    c.parse-by.ensures
+    IfOk-weaker c.parse_by.result _ _
+    (λ l e. e ∙ ap (λ v. line_by v (map said (take (length ts - 1) (drop 1 ts)))) c.verb_in.ensures ∙ sym (ap line_of (first_and said ts nothing (search rules))))
+    c.parse_by.ensures

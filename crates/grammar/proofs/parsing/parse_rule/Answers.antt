@@ -12,12 +12,12 @@ few [] e = refl
 few (a ∷ []) e = refl
 few (a ∷ b ∷ ts) e = absurd (omega arith)
 
-pub returns-in-default : goal.returns-in-default
-returns-in-default c = few c.args.tokens.now (search rules)
+pub returns-in_default : goal.returns-in_default
+returns-in_default c = few c.args.tokens.now (search rules)
 
-pub returns-in-Some-name-in : goal.returns-in-Some-name-in
-returns-in-Some-name-in c =
+pub returns-in-Some-name_in : goal.returns-in-Some-name_in
+returns-in-Some-name_in c =
     let ts = c.args.tokens.now in
-    IfOk-weaker c.parse-led.result _ _
-    (λ l e. e ∙ both_then (number_of (said (get_or ts 0 nothing))) (name_of (said (get_or ts 1 nothing))) (λ a b. led_by (statement b) a (map said (take (length ts - 2) (drop 2 ts)))) c.in-Some.weight.now c.in-Some-name-in.head.now c.in-Some.ensures c.in-Some-name-in.ensures ∙ sym (ap rule_line_of (two_and said ts nothing (search rules))))
-    c.parse-led.ensures
+    IfOk-weaker c.parse_led.result _ _
+    (λ l e. e ∙ both_then (number_of (said (get_or ts 0 nothing))) (name_of (said (get_or ts 1 nothing))) (λ a b. led_by (statement b) a (map said (take (length ts - 2) (drop 2 ts)))) c.in-Some.weight.now c.in-Some-name_in.head.now c.in-Some.ensures c.in-Some-name_in.ensures ∙ sym (ap rule_line_of (two_and said ts nothing (search rules))))
+    c.parse_led.ensures

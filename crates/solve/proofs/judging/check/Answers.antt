@@ -18,7 +18,7 @@ judge-requires g c =
     let levels : m.levels ≡ book.levels = sym c.levels.ensures ∙ c.if-levels.false ∙ c.levels-levels.ensures in
     let size : length setting ≡ book.statements = c.if-setting-from.false ∙ c.from.ensures ∙ c.statements.ensures in
     let passed : every (λ d. ltb d m.levels) setting ≡ true =
-    subst (λ (k : ℕ). every (λ d. ltb d k) setting ≡ true) (c.levels-levels.ensures ∙ sym levels) (sym c.if-not-all-below.ensures) in
+    subst (λ (k : ℕ). every (λ d. ltb d k) setting ≡ true) (c.levels-levels.ensures ∙ sym levels) (sym c.if-not-all_below.ensures) in
     let some : 0 < m.levels = omega (arith, levels, book.least) in
     (degrees_from m.levels setting some passed, (ready_rules m (length setting) book c.rules.result.now c.rules.ensures levels size, omega (arith, size, book.few)))
 
@@ -30,7 +30,7 @@ returns g c =
     let levels : m.levels ≡ book.levels = sym c.levels.ensures ∙ c.if-levels.false ∙ c.levels-levels.ensures in
     let size : length setting ≡ book.statements = c.if-setting-from.false ∙ c.from.ensures ∙ c.statements.ensures in
     let passed : every (λ d. ltb d book.levels) setting ≡ true =
-    subst (λ (k : ℕ). every (λ d. ltb d k) setting ≡ true) c.levels-levels.ensures (sym c.if-not-all-below.ensures) in
+    subst (λ (k : ℕ). every (λ d. ltb d k) setting ≡ true) c.levels-levels.ensures (sym c.if-not-all_below.ensures) in
     let alike : eqb m.levels book.levels ≡ true = eq-eqb _ _ levels in
     let long : eqb (length setting) book.statements ≡ true = eq-eqb _ _ size in
     let none : check_refusal m (ledger_of book) setting ≡ None = rw (passed, alike, long) refl in

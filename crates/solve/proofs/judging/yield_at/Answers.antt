@@ -19,17 +19,17 @@ returns g c =
     let setting = c.args.setting.now in
     let rules = (ledger_of book).rules in
     let i = c.args.i in
-    let rule = clause_of c.in-ok-rule.rule in
-    let within : i < length rules = c.in-ok-rule.ensures.0 in
-    let is : rule ≡ get_or rules i rule = c.in-ok-rule.ensures.1 in
+    let rule = clause_of c.in_ok-rule.rule in
+    let within : i < length rules = c.in_ok-rule.ensures.0 in
+    let is : rule ≡ get_or rules i rule = c.in_ok-rule.ensures.1 in
     let levels : m.levels ≡ book.levels = sym c.levels.ensures ∙ c.if-levels.false ∙ c.levels-levels.ensures in
     let size : length setting ≡ book.statements = c.if-setting-from.false ∙ c.from.ensures ∙ c.statements.ensures in
     let passed : every (λ d. ltb d book.levels) setting ≡ true =
-    subst (λ (k : ℕ). every (λ d. ltb d k) setting ≡ true) c.levels-levels.ensures (sym c.if-not-all-below.ensures) in
+    subst (λ (k : ℕ). every (λ d. ltb d k) setting ≡ true) c.levels-levels.ensures (sym c.if-not-all_below.ensures) in
     let there : leb (length rules) i ≡ false = lt-leb (length rules) i within in
     let alike : eqb m.levels book.levels ≡ true = eq-eqb _ _ levels in
     let long : eqb (length setting) book.statements ≡ true = eq-eqb _ _ size in
     let none : yield_refusal m (ledger_of book) i setting ≡ None = rw (passed, there, alike, long) refl in
     let low : Degrees m setting = λ s. subst (λ (k : ℕ). at setting s < k) (sym levels) (degrees_from book.levels setting (omega (arith, book.least)) passed s) in
     let fit : fits m.levels rule ≡ true = subst (λ (r : Clause). fits m.levels r ≡ true) (sym is) (All-get_or (Lawful m.levels book.statements) rules i rule within (scale_lawful m book levels)).degrees in
-    grants (yield_refusal m (ledger_of book) i setting) (YieldAt m rules i setting) c.rule-yield.result none (λ d. c.rule-yield.ensures low low fit ∙ ap (yield m (at setting) (at setting)) (is ∙ get_or_default rules i rule d within))
+    grants (yield_refusal m (ledger_of book) i setting) (YieldAt m rules i setting) c.rule_yield.result none (λ d. c.rule_yield.ensures low low fit ∙ ap (yield m (at setting) (at setting)) (is ∙ get_or_default rules i rule d within))

@@ -12,8 +12,8 @@ loop-statement-preserved g c =
     let s = c.loop-statement.statement in
     let room : s < length next = omega arith in
     below_more _ _
-    (λ k h. let apart : k ≢ s = omega arith in get_or-set_other next s k c.gain-of.result 0 apart ∙ c.loop-statement.invariant k h)
-    (get_or-set_same next s c.gain-of.result 0 room ∙ c.gain-of.ensures)
+    (λ k h. let apart : k ≢ s = omega arith in get_or-set_other next s k c.gain_of.result 0 apart ∙ c.loop-statement.invariant k h)
+    (get_or-set_same next s c.gain_of.result 0 room ∙ c.gain_of.ensures)
 
 pub returns : goal.returns
 returns g c =

@@ -10,9 +10,9 @@ pub loop-position-preserved : goal.loop-position-preserved
 loop-position-preserved g c =
     let m = g.S.Scale.meaning c.args.scale.now in
     let cs = map clause_of c.args.rules.now in
-    let row = c.write-setting.new.row in
+    let row = c.write_setting.new.row in
     let levels = c.levels-levels.ensures in
-    let setting : Setting m (length row) row = record { long = refl; degrees = λ s. subst (λ (k : ℕ). at row s < k) levels (c.write-setting.ensures.degrees s) } in
-    let here : position m.levels row ≡ c.loop-position.position = ap (λ (k : ℕ). position k row) (sym levels) ∙ c.write-setting.ensures.position in
-    let before = subst (λ (n : ℕ). NoSceneBetween m cs n c.args.start c.loop-position.position) (sym c.write-setting.auto.row) c.loop-position.invariant in
-    passed_one m cs (length row) c.args.start c.loop-position.position row setting here c.in-default.ensures before
+    let setting : Setting m (length row) row = record { long = refl; degrees = λ s. subst (λ (k : ℕ). at row s < k) levels (c.write_setting.ensures.degrees s) } in
+    let here : position m.levels row ≡ c.loop-position.position = ap (λ (k : ℕ). position k row) (sym levels) ∙ c.write_setting.ensures.position in
+    let before = subst (λ (n : ℕ). NoSceneBetween m cs n c.args.start c.loop-position.position) (sym c.write_setting.auto.row) c.loop-position.invariant in
+    passed_one m cs (length row) c.args.start c.loop-position.position row setting here c.in_default.ensures before

@@ -17,5 +17,5 @@ returns-in-Some g c =
 pub returns-then-same : goal.returns-then-same
 returns-then-same g c =
     let m = g.S.Scale.meaning c.args.scale.now in
-    let made = c.least-model-rounds.ensures in
-    scene_from (all_hold m c.args.rules.now c.args.row.now c.in-default.ensures) made.rounds (sym made.after ∙ c.if-same.ensures)
+    let made = c.least_model-rounds.ensures in
+    scene_from (all_hold m c.args.rules.now c.args.row.now c.in_default.ensures) made.rounds (sym made.after ∙ c.if-same.ensures)

@@ -4,8 +4,8 @@ use Rattle.solve.specs.Ready.{Rules}
 use Rattle.solve.proofs.Rounds.{zeros_front}
 use Rattle.solve.proofs.seeking.search.Goals as goal
 
-pub first-scene-found-requires : goal.first-scene-found-requires
-first-scene-found-requires g c =
+pub first_scene-found-requires : goal.first_scene-found-requires
+first_scene-found-requires g c =
     let m = g.S.Scale.meaning c.args.scale.now in
     let n = length c.args.place.now in
     let long : length (take {A = ℕ} (n - 0) (replicate 16 0)) ≡ n = ap length (zeros_front n c.requires.1.0) ∙ length-replicate n 0 in

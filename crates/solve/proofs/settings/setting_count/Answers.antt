@@ -6,8 +6,8 @@ use Rattle.solve.proofs.settings.setting_count.Goals as goal
 pub loop-init : goal.loop-init
 loop-init c = (sym (pow-zero c.args.levels), omega arith)
 
-pub overflow-mul-count : goal.overflow-mul-count
-overflow-mul-count c =
+pub overflow_mul-count : goal.overflow_mul-count
+overflow_mul-count c =
     let small : c.loop.count ≤ 4294967295 = omega (arith, c.loop.invariant.1) in
     let factor : c.from-count.result ≤ 255 = omega arith in
     omega (arith, mul-le-mul small factor)

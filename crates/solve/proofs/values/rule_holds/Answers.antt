@@ -12,4 +12,4 @@ returns g c low high fit =
     let rule = clause_of c.args.rule.now in
     let weight = fits_weight m.levels rule fit in
     let laws : Laws m = g.met.S.Scale.lawful c.args.scale.now (omega (arith, weight)) in
-    c.below.ensures ∙ ap₂ (λ a b. m.below (clip m a) (clip m b)) (c.rule-yield.ensures low high fit) c.head_degree.ensures ∙ clip_both m m.below (yield_degree laws low high rule weight) (fits_head m low rule fit)
+    c.below.ensures ∙ ap₂ (λ a b. m.below (clip m a) (clip m b)) (c.rule_yield.ensures low high fit) c.head_degree.ensures ∙ clip_both m m.below (yield_degree laws low high rule weight) (fits_head m low rule fit)

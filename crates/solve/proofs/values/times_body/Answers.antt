@@ -20,7 +20,7 @@ loop-literal-preserved g c low high first fit =
     let body = c.args.body.now in
     let v = value m (at c.args.lower.now) (at c.args.upper.now) (get_or body i (Plain 0)) in
     let worth : v < m.levels = value_degree laws low high (get_or body i (Plain 0)) in
-    let is : c.product-product.result ≡ m.product acc v = c.product-product.ensures ∙ ap (λ (x : ℕ). m.product (clip m acc) (clip m x)) (c.literal-value.ensures low high (every_at (literal_fits m.levels) body i (Plain 0) fit c.loop-literal-test.true)) ∙ clip_both m m.product inv.0 worth in
+    let is : c.product-product.result ≡ m.product acc v = c.product-product.ensures ∙ ap (λ (x : ℕ). m.product (clip m acc) (clip m x)) (c.literal_value.ensures low high (every_at (literal_fits m.levels) body i (Plain 0) fit c.loop-literal-test.true)) ∙ clip_both m m.product inv.0 worth in
     let rest = body_degree laws low high (drop (i + 1) body) in
     let step = fold_step m.levels m.product laws.product_assoc (value m (at c.args.lower.now) (at c.args.upper.now)) (body_value m (at c.args.lower.now) (at c.args.upper.now)) (λ x xs. refl) body i acc _ inv.0 inv.1 (Plain 0) c.loop-literal-test.true worth rest in
     (subst (λ (x : ℕ). x < m.levels) (sym is) (laws.product_degree acc v inv.0 worth), ap (λ (x : ℕ). m.product x (body_value m (at c.args.lower.now) (at c.args.upper.now) (drop (i + 1) body))) is ∙ step)

@@ -11,7 +11,7 @@ loop-b-preserved c =
     let i = c.loop-b.b-index in
     let more : value_of (take (i + 1) digits) ≡ value_of (take i digits) * 10 + (get_or digits i 0 - 48) = fold_more (λ v b. v * 10 + (b - 48)) 0 digits i 0 c.loop-b-test.true in
     let before = value_of (take i digits) in
-    c.saturating-add-value.ensures ∙ ap₂ (λ a b. min (a + b) 255) (c.saturating-mul.ensures ∙ ap (λ v. min (v * 10) 255) c.loop-b.invariant) c.saturating-sub.ensures ∙ capped_more before (get_or digits i 0 - 48) ∙ ap (min 255) (sym more)
+    c.saturating_add-value.ensures ∙ ap₂ (λ a b. min (a + b) 255) (c.saturating_mul.ensures ∙ ap (λ v. min (v * 10) 255) c.loop-b.invariant) c.saturating_sub.ensures ∙ capped_more before (get_or digits i 0 - 48) ∙ ap (min 255) (sym more)
 
 pub returns : goal.returns
 returns c = c.loop-b.invariant ∙ ap (λ l. min 255 (value_of l)) (take_all c.loop-b.b-index c.args.digits.now c.loop-b-test.false)

@@ -7,5 +7,5 @@ use Rattle.text.proofs.reading.read.Goals as goal
 pub returns : goal.returns
 returns c =
     let before = ledger_of c.args.book.now in
-    let left = ledger_of c.read-named.new.book in
-    record { only = c.read-named.ensures.only; answer = subst (λ r. Reads c.args.text.now before r left) (sym c.less_names.ensures) (reads_unnamed c.args.text.now before left c.read-named.result c.read-named.ensures.answer) }
+    let left = ledger_of c.read_named.new.book in
+    record { only = c.read_named.ensures.only; answer = subst (λ r. Reads c.args.text.now before r left) (sym c.less_names.ensures) (reads_unnamed c.args.text.now before left c.read_named.result c.read_named.ensures.answer) }

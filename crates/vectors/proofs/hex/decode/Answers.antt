@@ -10,7 +10,7 @@ loop-rest-preserved c =
     let front = vec_items c.loop-rest.bytes in
     let byte = c.in-Some.byte in
     let long : 2 ≤ length rest = search rules in
-    ap (λ l. behind l (bytes_of (take (length rest - 2) (drop 2 rest)))) c.in-ok-push.ensures.items
+    ap (λ l. behind l (bytes_of (take (length rest - 2) (drop 2 rest)))) c.in_ok-push.ensures.items
     ∙ ap (λ l. behind (front ++ byte ∷ []) (bytes_of l)) (take_rest rest 2)
     ∙ decode_more front rest byte long (sym c.in-Some.ensures)
     ∙ c.loop-rest.invariant

@@ -12,36 +12,36 @@ use Rattle.book.proofs.Entering.{first_met_early, first_met_more, pushed_kept}
 use Rattle.book.proofs.Sizes.{rules-length}
 use Rattle.book.proofs.books.Book.enter.Goals as goal
 
-pub returns-then-len-ge-MOST-RULES : goal.returns-then-len-ge-MOST-RULES
-returns-then-len-ge-MOST-RULES c =
+pub returns-then-len-ge-MOST_RULES : goal.returns-then-len-ge-MOST_RULES
+returns-then-len-ge-MOST_RULES c =
     let book = c.args.self.now in
     let rule = clause c.args.head c.args.weight c.args.body.now in
     let full : leb 64 (length (ledger_of book).rules) ≡ true = le-leb _ _ (omega (arith, rules-length book)) in
-    let lawful = first_met_more (unlawful book.levels book.statements rule) (cause (leb 64 (length (ledger_of book).rules)) BookFull ∷ []) c.in-ok-rule.ensures.0 in
+    let lawful = first_met_more (unlawful book.levels book.statements rule) (cause (leb 64 (length (ledger_of book).rules)) BookFull ∷ []) c.in_ok-rule.ensures.0 in
     record { answer = rw (lawful, full) refl; after = rw (lawful, full) refl }
 
-pub invariant-of-self : goal.invariant-of-self
-invariant-of-self c =
+pub invariant_of-self : goal.invariant_of-self
+invariant_of-self c =
     let book = c.args.self.now in
     let rows = book.table.rows in
-    let row = c.in-ok-rule.rule in
-    let after = c.push-reserved.ensures in
-    (book.least, (book.most, (book.few, (omega arith, (search rules, (λ k d h. rw after.items (pushed_kept book.levels book.statements (vec_items rows) row _ (sym rows.ok.0) c.in-ok-rule.ensures.2 book.lawful k d (rw (← after.len) h)), tt))))))
+    let row = c.in_ok-rule.rule in
+    let after = c.push_reserved.ensures in
+    (book.least, (book.most, (book.few, (omega arith, (search rules, (λ k d h. rw after.items (pushed_kept book.levels book.statements (vec_items rows) row _ (sym rows.ok.0) c.in_ok-rule.ensures.2 book.lawful k d (rw (← after.len) h)), tt))))))
 
 pub returns : goal.returns
 returns c =
     let book = c.args.self.now in
     let rule = clause c.args.head c.args.weight c.args.body.now in
     let room : leb 64 (length (ledger_of book).rules) ≡ false = lt-leb _ _ (omega (arith, rules-length book)) in
-    let lawful = first_met_more (unlawful book.levels book.statements rule) (cause (leb 64 (length (ledger_of book).rules)) BookFull ∷ []) c.in-ok-rule.ensures.0 in
-    let rules : map clause_of (vec_items c.push-reserved.new.self) ≡ (ledger_of book).rules ++ rule ∷ [] =
-    ap (map clause_of) c.push-reserved.ensures.items ∙ map_push clause_of (vec_items book.table.rows) c.in-ok-rule.rule ∙ ap (λ x. (ledger_of book).rules ++ x ∷ []) c.in-ok-rule.ensures.1 in
+    let lawful = first_met_more (unlawful book.levels book.statements rule) (cause (leb 64 (length (ledger_of book).rules)) BookFull ∷ []) c.in_ok-rule.ensures.0 in
+    let rules : map clause_of (vec_items c.push_reserved.new.self) ≡ (ledger_of book).rules ++ rule ∷ [] =
+    ap (map clause_of) c.push_reserved.ensures.items ∙ map_push clause_of (vec_items book.table.rows) c.in_ok-rule.rule ∙ ap (λ x. (ledger_of book).rules ++ x ∷ []) c.in_ok-rule.ensures.1 in
     record { answer = rw (lawful, room) refl; after = rw (lawful, room) (ap (with_rules (ledger_of book)) rules) }
 
-pub returns-in-err-rule : goal.returns-in-err-rule
-returns-in-err-rule c =
+pub returns-in_err-rule : goal.returns-in_err-rule
+returns-in_err-rule c =
     let book = c.args.self.now in
     let rule = clause c.args.head c.args.weight c.args.body.now in
-    let passed = err_from_is_err_and c.from-residual.result c.from-residual.ensures.1 in
-    let early = first_met_early (unlawful book.levels book.statements rule) (cause (leb 64 (length (ledger_of book).rules)) BookFull ∷ []) c.in-err-rule.field-0.0 c.in-err-rule.ensures in
+    let passed = err_from_is_err_and c.from_residual.result c.from_residual.ensures.1 in
+    let early = first_met_early (unlawful book.levels book.statements rule) (cause (leb 64 (length (ledger_of book).rules)) BookFull ∷ []) c.in_err-rule.field-0.0 c.in_err-rule.ensures in
     record { answer = rw (passed.1, passed.2, early) refl; after = rw early refl }

@@ -14,8 +14,8 @@ returns-then-i-len c =
     let past : leb (length (ledger_of book).rules) c.args.i ≡ true = le-leb _ _ (omega (arith, rules-length book)) in
     record { answer = rw (degree, past) refl; after = rw (degree, past) refl }
 
-pub invariant-of-self : goal.invariant-of-self
-invariant-of-self c =
+pub invariant_of-self : goal.invariant_of-self
+invariant_of-self c =
     let book = c.args.self.now in
     let rows = book.table.rows in
     let there : c.args.i < length (vec_items rows) = omega (arith, rows.ok.0) in

@@ -15,8 +15,8 @@ returns-then-i-len c =
     let met : leb (length (ledger_of book).rules) c.args.i ≡ true = le-leb _ _ past in
     record { answer = rw met refl; after = rw met refl }
 
-pub invariant-of-self : goal.invariant-of-self
-invariant-of-self c =
+pub invariant_of-self : goal.invariant_of-self
+invariant_of-self c =
     let book = c.args.self.now in
     (book.least, (book.most, (book.few, (omega arith, (search rules, (λ k d h. kept_removed (λ r. kept book.levels book.statements r ≡ true) (λ j. get_or (vec_items book.table.rows) j d) (λ j. get_or (vec_items c.remove.new.self) j d) c.args.i _ _ c.remove.ensures.len (λ j. c.remove.ensures.by_index.0 j d) (λ j. c.remove.ensures.by_index.1 j d) (λ j. book.lawful j d) k h, tt))))))
 

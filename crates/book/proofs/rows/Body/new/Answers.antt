@@ -18,4 +18,4 @@ returns c =
     let given = c.args.literals.now in
     let done : c.loop-i.i ≡ length given = omega arith in
     let same : take (length given) c.loop-i.row ≡ take (length given) given = rw done at c.loop-i.invariant.1 in
-    (le-ltb 4 (length given) c.if-literals-gt-MOST-LITERALS.false, same ∙ take_all (length given) given (omega arith))
+    (le-ltb 4 (length given) c.if-literals-gt-MOST_LITERALS.false, same ∙ take_all (length given) given (omega arith))

@@ -5,6 +5,6 @@ use Rattle.output.proofs.cursors.Cursor.put.Goals as goal
 pub returns : goal.returns
 returns c =
     record {
-      puts = put_part c.args.self.now _ c.args.bytes.now c.copy-from-slice.new.self c.requires c.copy-from-slice.ensures.after refl refl;
+      puts = put_part c.args.self.now _ c.args.bytes.now c.copy_from_slice.new.self c.requires c.copy_from_slice.ensures.after refl refl;
       same = refl;
     }

@@ -6,12 +6,12 @@ use Rattle.output.proofs.cursors.Cursor.put_count.Goals as goal
 pub put-requires : goal.put-requires
 put-requires c = omega (arith, length_count c.args.scenes)
 
-pub put-number-requires : goal.put-number-requires
-put-number-requires c = omega (arith, length_count c.args.scenes)
+pub put_number-requires : goal.put_number-requires
+put_number-requires c = omega (arith, length_count c.args.scenes)
 
 pub returns : goal.returns
 returns c =
     record {
-      puts = then_put c.put-number.ensures.puts c.put.ensures.puts;
-      same = c.put.ensures.same ∙ c.put-number.ensures.same;
+      puts = then_put c.put_number.ensures.puts c.put.ensures.puts;
+      same = c.put.ensures.same ∙ c.put_number.ensures.same;
     }

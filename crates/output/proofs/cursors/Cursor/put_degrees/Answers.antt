@@ -11,14 +11,14 @@ loop-degree-init c = (put_nothing c.args.self.now (omega arith), refl)
 pub put-requires : goal.put-requires
 put-requires c = omega (arith, spaced_room c.args.degrees.now c.loop-degree.degree-index c.loop-degree-test.true, c.loop-degree.invariant.0.moved, c.loop-degree.invariant.0.long)
 
-pub put-number-requires : goal.put-number-requires
-put-number-requires c = omega (arith, spaced_room c.args.degrees.now c.loop-degree.degree-index c.loop-degree-test.true, c.loop-degree.invariant.0.moved, c.loop-degree.invariant.0.long)
+pub put_number-requires : goal.put_number-requires
+put_number-requires c = omega (arith, spaced_room c.args.degrees.now c.loop-degree.degree-index c.loop-degree-test.true, c.loop-degree.invariant.0.moved, c.loop-degree.invariant.0.long)
 
 pub loop-degree-preserved : goal.loop-degree-preserved
 loop-degree-preserved c = (
   spelled_so (spaced_more c.args.degrees.now c.loop-degree.degree-index c.loop-degree-test.true)
-      (then_put c.loop-degree.invariant.0 (then_put c.put.ensures.puts c.put-number.ensures.puts)),
-  c.put-number.ensures.same ∙ c.put.ensures.same ∙ c.loop-degree.invariant.1,
+      (then_put c.loop-degree.invariant.0 (then_put c.put.ensures.puts c.put_number.ensures.puts)),
+  c.put_number.ensures.same ∙ c.put.ensures.same ∙ c.loop-degree.invariant.1,
 )
 
 pub returns : goal.returns
