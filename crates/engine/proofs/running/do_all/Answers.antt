@@ -18,13 +18,13 @@ loop-call-preserved g c = (
       c.in-Some.ensures.steps.0 c.in-Some.ensures.steps.1 c.loop-call.invariant.3,
   outcomes_turn (g.S.Scale.meaning c.args.scale.now) (ledgers_of c.args.first.now c.args.second.now)
       (ledgers_of c.loop-call.first c.loop-call.second) (ledgers_of c.step.new.first c.step.new.second)
-      (into_iter_items c.into-iter-call-iterator.result)
+      (into_iter_items c.into_iter-call-iterator.result)
       (into_iter_items c.loop-call.call-iterator) (into_iter_items c.next.new.self) c.in-Some.call
       c.step.result (vec_items c.loop-call.outcomes) (vec_items c.push_reserved.new.self)
       c.in-Some.ensures.steps.0 c.step.ensures.changes c.step.ensures.answer
       c.push_reserved.ensures.items c.loop-call.invariant.4,
   ledgers_turn
-      (after_all (into_iter_items c.into-iter-call-iterator.result) (ledgers_of c.args.first.now c.args.second.now))
+      (after_all (into_iter_items c.into_iter-call-iterator.result) (ledgers_of c.args.first.now c.args.second.now))
       (ledgers_of c.loop-call.first c.loop-call.second) (ledgers_of c.step.new.first c.step.new.second)
       (into_iter_items c.loop-call.call-iterator) (into_iter_items c.next.new.self) c.in-Some.call
       c.in-Some.ensures.steps.0 c.step.ensures.changes c.loop-call.invariant.5,
@@ -33,6 +33,6 @@ loop-call-preserved g c = (
 pub returns : goal.returns
 returns g c =
     record {
-      answers = outcomes_end (g.S.Scale.meaning c.args.scale.now) (ledgers_of c.args.first.now c.args.second.now) (ledgers_of c.loop-call.first c.loop-call.second) (into_iter_items c.into-iter-call-iterator.result) (vec_items c.args.calls) (into_iter_items c.loop-call.call-iterator) (vec_items c.loop-call.outcomes) (sym c.loop-call.invariant.3 ∙ c.in-None.ensures.steps.0) c.into-iter-call-iterator.ensures.into-iter-gives.0 c.loop-call.invariant.4;
-      changes = ledgers_end (ledgers_of c.args.first.now c.args.second.now) (ledgers_of c.loop-call.first c.loop-call.second) (into_iter_items c.into-iter-call-iterator.result) (vec_items c.args.calls) (into_iter_items c.loop-call.call-iterator) (sym c.loop-call.invariant.3 ∙ c.in-None.ensures.steps.0) c.into-iter-call-iterator.ensures.into-iter-gives.0 c.loop-call.invariant.5;
+      answers = outcomes_end (g.S.Scale.meaning c.args.scale.now) (ledgers_of c.args.first.now c.args.second.now) (ledgers_of c.loop-call.first c.loop-call.second) (into_iter_items c.into_iter-call-iterator.result) (vec_items c.args.calls) (into_iter_items c.loop-call.call-iterator) (vec_items c.loop-call.outcomes) (sym c.loop-call.invariant.3 ∙ c.in-None.ensures.steps.0) c.into_iter-call-iterator.ensures.into_iter-gives.0 c.loop-call.invariant.4;
+      changes = ledgers_end (ledgers_of c.args.first.now c.args.second.now) (ledgers_of c.loop-call.first c.loop-call.second) (into_iter_items c.into_iter-call-iterator.result) (vec_items c.args.calls) (into_iter_items c.loop-call.call-iterator) (sym c.loop-call.invariant.3 ∙ c.in-None.ensures.steps.0) c.into_iter-call-iterator.ensures.into_iter-gives.0 c.loop-call.invariant.5;
     }

@@ -26,7 +26,14 @@ invariant_of-self c =
     let rows = book.table.rows in
     let row = c.in_ok-rule.rule in
     let after = c.push_reserved.ensures in
-    (book.least, (book.most, (book.few, (omega arith, (search rules, (λ k d h. rw after.items (pushed_kept book.levels book.statements (vec_items rows) row _ (sym rows.ok.0) c.in_ok-rule.ensures.2 book.lawful k d (rw (← after.len) h)), tt))))))
+    record {
+      least = book.least;
+      most = book.most;
+      few = book.few;
+      short = omega arith;
+      room = search rules;
+      lawful = λ k d h. rw after.items (pushed_kept book.levels book.statements (vec_items rows) row _ (sym rows.ok.0) c.in_ok-rule.ensures.2 book.lawful k d (rw (← after.len) h));
+    }
 
 pub returns : goal.returns
 returns c =

@@ -19,7 +19,14 @@ invariant_of-self c =
     let book = c.args.self.now in
     let rows = book.table.rows in
     let there : c.args.i < length (vec_items rows) = omega (arith, rows.ok.0) in
-    (book.least, (book.most, (book.few, (omega arith, (omega arith, (λ k d h. rw (c.reweigh.ensures.rows d) (rows_kept book.levels book.statements c.args.weight c.args.i (vec_items rows) (omega arith) there (λ j e l. book.lawful j e (omega (arith, rows.ok.0))) k d (omega (arith, rows.ok.0))), tt))))))
+    record {
+      least = book.least;
+      most = book.most;
+      few = book.few;
+      short = omega arith;
+      room = omega arith;
+      lawful = λ k d h. rw (c.reweigh.ensures.rows d) (rows_kept book.levels book.statements c.args.weight c.args.i (vec_items rows) (omega arith) there (λ j e l. book.lawful j e (omega (arith, rows.ok.0))) k d (omega (arith, rows.ok.0)));
+    }
 
 pub returns : goal.returns
 returns c =

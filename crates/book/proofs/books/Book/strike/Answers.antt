@@ -18,7 +18,14 @@ returns-then-i-len c =
 pub invariant_of-self : goal.invariant_of-self
 invariant_of-self c =
     let book = c.args.self.now in
-    (book.least, (book.most, (book.few, (omega arith, (search rules, (λ k d h. kept_removed (λ r. kept book.levels book.statements r ≡ true) (λ j. get_or (vec_items book.table.rows) j d) (λ j. get_or (vec_items c.remove.new.self) j d) c.args.i _ _ c.remove.ensures.len (λ j. c.remove.ensures.by_index.0 j d) (λ j. c.remove.ensures.by_index.1 j d) (λ j. book.lawful j d) k h, tt))))))
+    record {
+      least = book.least;
+      most = book.most;
+      few = book.few;
+      short = omega arith;
+      room = search rules;
+      lawful = λ k d h. kept_removed (λ r. kept book.levels book.statements r ≡ true) (λ j. get_or (vec_items book.table.rows) j d) (λ j. get_or (vec_items c.remove.new.self) j d) c.args.i _ _ c.remove.ensures.len (λ j. c.remove.ensures.by_index.0 j d) (λ j. c.remove.ensures.by_index.1 j d) (λ j. book.lawful j d) k h;
+    }
 
 pub returns : goal.returns
 returns c =

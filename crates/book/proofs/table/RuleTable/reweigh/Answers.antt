@@ -7,7 +7,7 @@ pub returns : goal.returns
 returns c =
     let rows = c.args.self.now.rows in
     record {
-      rows = λ d. ap (set (vec_items rows) c.args.i) (c.set_weight.ensures ∙ ap (row_reweighed c.args.weight) (get_or_read_under (vec_items rows) c.args.i _ _ d c.index-mut.ensures.value c.requires rows.ok.0));
+      rows = λ d. ap (set (vec_items rows) c.args.i) (c.set_weight.ensures ∙ ap (row_reweighed c.args.weight) (get_or_read_under (vec_items rows) c.args.i _ _ d c.index_mut.ensures.value c.requires rows.ok.0));
       len = refl;
       capacity = refl;
     }
