@@ -38,10 +38,10 @@ fn tell<S: Scale>(
     addendum: &mut [Rule],
     setting: &mut [u8],
 ) -> Comparison
-    requires lawful { (Rules (meaning scale.now) (length setting.old) first.now) × (Rules (meaning scale.now) (length setting.old) second.now) }
+    requires lawful { (Rules (S.meaning scale.now) (length setting.old) first.now) × (Rules (S.meaning scale.now) (length setting.old) second.now) }
     requires room { (length setting.old ≤ 16) × (2 * length setting.old ≤ length addendum.old) }
-    requires whole { (count ≡ (meaning scale.now).levels ^ length setting.old) × (1 ≤ (meaning scale.now).levels) }
-    ensures { Told (meaning scale.now) (length setting.old) (map clause_of first.now) (map clause_of second.now) (places addendum.old setting.old) (places addendum.new setting.new) result }
+    requires whole { (count ≡ (S.meaning scale.now).levels ^ length setting.old) × (1 ≤ (S.meaning scale.now).levels) }
+    ensures { Told (S.meaning scale.now) (length setting.old) (map clause_of first.now) (map clause_of second.now) (places addendum.old setting.old) (places addendum.new setting.new) result }
 {
     let mut lower_row = [0; MOST_STATEMENTS];
     let mut upper_row = [0; MOST_STATEMENTS];
@@ -79,7 +79,7 @@ pub fn compare<S: Scale>(
     addendum: &mut [Rule],
     setting: &mut [u8],
 ) -> Result<Comparison, Refusal>
-    ensures answer { Answers (compare_refusal (meaning scale.now) (ledger_of first.now) (ledger_of second.now) addendum.old setting.old) result (Compared (meaning scale.now) (ledger_of first.now).statements (ledger_of first.now).rules (ledger_of second.now).rules (places addendum.old setting.old) (places addendum.new setting.new)) }
+    ensures answer { Answers (compare_refusal (S.meaning scale.now) (ledger_of first.now) (ledger_of second.now) addendum.old setting.old) result (Compared (S.meaning scale.now) (ledger_of first.now).statements (ledger_of first.now).rules (ledger_of second.now).rules (places addendum.old setting.old) (places addendum.new setting.new)) }
     ensures refused { is_ok result ≡ false → places addendum.new setting.new ≡ places addendum.old setting.old }
 {
     let levels = scale.levels();

@@ -31,8 +31,8 @@ enum Models {
 
 // Do all rules hold at a setting?
 fn all_hold<S: Scale>(scale: &S, rules: &[Rule], row: &[u8]) -> bool
-    requires { (Degrees (meaning scale.now) row.now) × (Rules (meaning scale.now) (length row.now) rules.now) }
-    ensures { MatchBool result (All (HoldsAt (meaning scale.now) row.now) (map clause_of rules.now)) (All (HoldsAt (meaning scale.now) row.now) (map clause_of rules.now) → ⊥) }
+    requires { (Degrees (S.meaning scale.now) row.now) × (Rules (S.meaning scale.now) (length row.now) rules.now) }
+    ensures { MatchBool result (All (HoldsAt (S.meaning scale.now) row.now) (map clause_of rules.now)) (All (HoldsAt (S.meaning scale.now) row.now) (map clause_of rules.now) → ⊥) }
 {
     for rule in rules {
         if !rule_holds(scale, rule, row, row) {
@@ -44,8 +44,8 @@ fn all_hold<S: Scale>(scale: &S, rules: &[Rule], row: &[u8]) -> bool
 
 // Does a rule hold at a lower and an upper setting, where it has a statement for its head?
 fn statement_holds<S: Scale>(scale: &S, rule: &Rule, lower: &[u8], upper: &[u8]) -> bool
-    requires { (Degrees (meaning scale.now) lower.now) × ((Degrees (meaning scale.now) upper.now) × (Rules (meaning scale.now) (length upper.now) (rule.now ∷ []))) }
-    ensures { MatchBool result (StatementHolds (meaning scale.now) (at lower.now) (at upper.now) (clause_of rule.now)) (StatementHolds (meaning scale.now) (at lower.now) (at upper.now) (clause_of rule.now) → ⊥) }
+    requires { (Degrees (S.meaning scale.now) lower.now) × ((Degrees (S.meaning scale.now) upper.now) × (Rules (S.meaning scale.now) (length upper.now) (rule.now ∷ []))) }
+    ensures { MatchBool result (StatementHolds (S.meaning scale.now) (at lower.now) (at upper.now) (clause_of rule.now)) (StatementHolds (S.meaning scale.now) (at lower.now) (at upper.now) (clause_of rule.now) → ⊥) }
 {
     match rule.head {
         Head::Statement(_) => rule_holds(scale, rule, lower, upper),
@@ -55,8 +55,8 @@ fn statement_holds<S: Scale>(scale: &S, rule: &Rule, lower: &[u8], upper: &[u8])
 
 // Do all rules with a statement for their head hold at a lower and an upper setting?
 fn statements_hold<S: Scale>(scale: &S, rules: &[Rule], lower: &[u8], upper: &[u8]) -> bool
-    requires { (Degrees (meaning scale.now) lower.now) × ((Degrees (meaning scale.now) upper.now) × (Rules (meaning scale.now) (length upper.now) rules.now)) }
-    ensures { MatchBool result (All (StatementHolds (meaning scale.now) (at lower.now) (at upper.now)) (map clause_of rules.now)) (All (StatementHolds (meaning scale.now) (at lower.now) (at upper.now)) (map clause_of rules.now) → ⊥) }
+    requires { (Degrees (S.meaning scale.now) lower.now) × ((Degrees (S.meaning scale.now) upper.now) × (Rules (S.meaning scale.now) (length upper.now) rules.now)) }
+    ensures { MatchBool result (All (StatementHolds (S.meaning scale.now) (at lower.now) (at upper.now)) (map clause_of rules.now)) (All (StatementHolds (S.meaning scale.now) (at lower.now) (at upper.now)) (map clause_of rules.now) → ⊥) }
 {
     for rule in rules {
         if !statement_holds(scale, rule, lower, upper) {
@@ -68,8 +68,8 @@ fn statements_hold<S: Scale>(scale: &S, rules: &[Rule], lower: &[u8], upper: &[u
 
 // Is one setting below another, statement by statement?
 fn is_under<S: Scale>(scale: &S, lower: &[u8], upper: &[u8]) -> bool
-    requires { (Degrees (meaning scale.now) lower.now) × ((Degrees (meaning scale.now) upper.now) × (length lower.now ≡ length upper.now)) }
-    ensures { MatchBool result (Under (meaning scale.now) lower.now upper.now) (Under (meaning scale.now) lower.now upper.now → ⊥) }
+    requires { (Degrees (S.meaning scale.now) lower.now) × ((Degrees (S.meaning scale.now) upper.now) × (length lower.now ≡ length upper.now)) }
+    ensures { MatchBool result (Under (S.meaning scale.now) lower.now upper.now) (Under (S.meaning scale.now) lower.now upper.now → ⊥) }
 {
     for statement in 0..lower.len() {
         if !scale.below(lower[statement], upper[statement]) {
@@ -97,8 +97,8 @@ fn advance(row: &mut [u8], levels: u8)
 
 // Which of the two books a setting satisfies.
 fn modelled_by<S: Scale>(scale: &S, first: &[Rule], second: &[Rule], row: &[u8]) -> Models
-    requires { (Degrees (meaning scale.now) row.now) × ((Rules (meaning scale.now) (length row.now) first.now) × (Rules (meaning scale.now) (length row.now) second.now)) }
-    ensures { Modelled (meaning scale.now) row.now (map clause_of first.now) (map clause_of second.now) result }
+    requires { (Degrees (S.meaning scale.now) row.now) × ((Rules (S.meaning scale.now) (length row.now) first.now) × (Rules (S.meaning scale.now) (length row.now) second.now)) }
+    ensures { Modelled (S.meaning scale.now) row.now (map clause_of first.now) (map clause_of second.now) result }
 {
     if all_hold(scale, first, row) {
         if all_hold(scale, second, row) {
@@ -121,8 +121,8 @@ fn kept_by<S: Scale>(
     lower: &[u8],
     upper: &[u8],
 ) -> Option<Which>
-    requires { (Degrees (meaning scale.now) lower.now) × ((Degrees (meaning scale.now) upper.now) × ((Rules (meaning scale.now) (length upper.now) first.now) × ((Rules (meaning scale.now) (length upper.now) second.now) × (length lower.now ≡ length upper.now)))) }
-    ensures { KeptBy (meaning scale.now) lower.now upper.now (map clause_of first.now) (map clause_of second.now) result }
+    requires { (Degrees (S.meaning scale.now) lower.now) × ((Degrees (S.meaning scale.now) upper.now) × ((Rules (S.meaning scale.now) (length upper.now) first.now) × ((Rules (S.meaning scale.now) (length upper.now) second.now) × (length lower.now ≡ length upper.now)))) }
+    ensures { KeptBy (S.meaning scale.now) lower.now upper.now (map clause_of first.now) (map clause_of second.now) result }
 {
     if !is_under(scale, lower, upper) {
         return None;
@@ -149,9 +149,9 @@ fn lower_difference<S: Scale>(
     count: u64,
     lower: &mut [u8],
 ) -> Option<Which>
-    requires { Searchable (meaning scale.now) first.now second.now count lower.old upper.now }
-    ensures found { LowerFound (meaning scale.now) (length upper.now) upper.now lower.new (map clause_of first.now) (map clause_of second.now) result }
-    ensures degrees { Degrees (meaning scale.now) lower.new }
+    requires { Searchable (S.meaning scale.now) first.now second.now count lower.old upper.now }
+    ensures found { LowerFound (S.meaning scale.now) (length upper.now) upper.now lower.new (map clause_of first.now) (map clause_of second.now) result }
+    ensures degrees { Degrees (S.meaning scale.now) lower.new }
 {
     let levels = scale.levels();
     for _ in 0..count {
@@ -172,9 +172,9 @@ fn upper_difference<S: Scale>(
     count: u64,
     lower: &mut [u8],
 ) -> Option<Difference>
-    requires { Searchable (meaning scale.now) first.now second.now count lower.old upper.now }
-    ensures found { UpperFound (meaning scale.now) (length upper.now) upper.now lower.new (map clause_of first.now) (map clause_of second.now) result }
-    ensures degrees { Degrees (meaning scale.now) lower.new }
+    requires { Searchable (S.meaning scale.now) first.now second.now count lower.old upper.now }
+    ensures found { UpperFound (S.meaning scale.now) (length upper.now) upper.now lower.new (map clause_of first.now) (map clause_of second.now) result }
+    ensures degrees { Degrees (S.meaning scale.now) lower.new }
 {
     match modelled_by(scale, first, second, upper) {
         Models::Only(book) => Some(Difference::ModelOf(book)),
@@ -195,8 +195,8 @@ pub(crate) fn find_difference<S: Scale>(
     lower: &mut [u8],
     upper: &mut [u8],
 ) -> Option<Difference>
-    requires { (Searchable (meaning scale.now) first.now second.now count lower.old upper.old) × (position (meaning scale.now).levels upper.old ≡ 0) }
-    ensures { Differs (meaning scale.now) (length upper.old) (map clause_of first.now) (map clause_of second.now) lower.new upper.new result }
+    requires { (Searchable (S.meaning scale.now) first.now second.now count lower.old upper.old) × (position (S.meaning scale.now).levels upper.old ≡ 0) }
+    ensures { Differs (S.meaning scale.now) (length upper.old) (map clause_of first.now) (map clause_of second.now) lower.new upper.new result }
 {
     let levels = scale.levels();
     for _ in 0..count {

@@ -37,7 +37,7 @@ fn do_all<S: Scale>(
 ) -> Vec<Outcome>
     requires none { outcomes.items ≡ [] }
     requires room { vec_len calls ≤ vec_capacity outcomes }
-    ensures answers { OutcomesOf (meaning scale.now) (ledgers_of first.old second.old) calls.items result.items }
+    ensures answers { OutcomesOf (S.meaning scale.now) (ledgers_of first.old second.old) calls.items result.items }
     ensures changes { ledgers_of first.new second.new ≡ after_all calls.items (ledgers_of first.old second.old) }
 {
     for call in calls {
@@ -57,7 +57,7 @@ pub fn run<S: Scale>(
     second_size: (u8, u8),
     calls: Vec<Call>,
 ) -> Result<Vec<Outcome>, RunError>
-    ensures { Ran (meaning scale.now) first_size second_size calls.items (ledgers_of first.old second.old) (ledgers_of first.new second.new) result }
+    ensures { Ran (S.meaning scale.now) first_size second_size calls.items (ledgers_of first.old second.old) (ledgers_of first.new second.new) result }
 {
     if let Some(refusal) = sizes_refusal(first_size, second_size) {
         return Err(RunError::Refused(refusal));

@@ -63,7 +63,7 @@ fn check_setting<S: Scale>(
     book: Which,
     setting: Vec<u8>,
 ) -> Outcome
-    ensures { CheckOutcome (meaning scale.now) (named book (ledgers_of first.now second.now)) setting.items result }
+    ensures { CheckOutcome (S.meaning scale.now) (named book (ledgers_of first.now second.now)) setting.items result }
 {
     let answer = match book {
         Which::First => check(scale, first, &setting),
@@ -80,7 +80,7 @@ fn seek_scene<S: Scale>(
     start: u64,
     mut place: Vec<u8>,
 ) -> Outcome
-    ensures { SeekOutcome (meaning scale.now) (named book (ledgers_of first.now second.now)) start place.items result }
+    ensures { SeekOutcome (S.meaning scale.now) (named book (ledgers_of first.now second.now)) start place.items result }
 {
     let answer = match book {
         Which::First => seek(scale, first, start, &mut place),
@@ -97,7 +97,7 @@ fn compare_books<S: Scale>(
     mut addendum: Vec<Rule>,
     mut setting: Vec<u8>,
 ) -> Outcome
-    ensures { CompareOutcome (meaning scale.now) (named book (ledgers_of first.now second.now)) (unnamed book (ledgers_of first.now second.now)) (places addendum.items setting.items) result }
+    ensures { CompareOutcome (S.meaning scale.now) (named book (ledgers_of first.now second.now)) (unnamed book (ledgers_of first.now second.now)) (places addendum.items setting.items) result }
 {
     let answer = match book {
         Which::First => compare(scale, first, second, &mut addendum, &mut setting),
@@ -108,7 +108,7 @@ fn compare_books<S: Scale>(
 
 // Does one call. A refused call changes nothing.
 pub(crate) fn step<S: Scale>(scale: &S, first: &mut Book, second: &mut Book, call: Call) -> Outcome
-    ensures answer { OutcomeOf (meaning scale.now) (ledgers_of first.old second.old) call result }
+    ensures answer { OutcomeOf (S.meaning scale.now) (ledgers_of first.old second.old) call result }
     ensures changes { ledgers_of first.new second.new ≡ after call (ledgers_of first.old second.old) }
 {
     match call {

@@ -24,8 +24,8 @@ pub enum Verdict {
 
 // The first rule that does not hold at a setting.
 pub(crate) fn first_broken<S: Scale>(scale: &S, rules: &[Rule], row: &[u8]) -> Option<usize>
-    requires { (Degrees (meaning scale.now) row.now) × (Rules (meaning scale.now) (length row.now) rules.now) }
-    ensures { FirstBreach (meaning scale.now) rules.now row.now result }
+    requires { (Degrees (S.meaning scale.now) row.now) × (Rules (S.meaning scale.now) (length row.now) rules.now) }
+    ensures { FirstBreach (S.meaning scale.now) rules.now row.now result }
 {
     for (i, rule) in rules.iter().enumerate() {
         if !rule_holds(scale, rule, row, row) {
@@ -37,8 +37,8 @@ pub(crate) fn first_broken<S: Scale>(scale: &S, rules: &[Rule], row: &[u8]) -> O
 
 // The residuum of a rule's body and head at a setting.
 fn residuum_of<S: Scale>(scale: &S, rule: &Rule, row: &[u8]) -> u8
-    requires { (Degrees (meaning scale.now) row.now) × (fits (meaning scale.now).levels (clause_of rule.now) ≡ true) }
-    ensures { result ≡ (meaning scale.now).residuum (body_value (meaning scale.now) (at row.now) (at row.now) (clause_of rule.now).body) (head_value (at row.now) rule.now.head) }
+    requires { (Degrees (S.meaning scale.now) row.now) × (fits (S.meaning scale.now).levels (clause_of rule.now) ≡ true) }
+    ensures { result ≡ (S.meaning scale.now).residuum (body_value (S.meaning scale.now) (at row.now) (at row.now) (clause_of rule.now).body) (head_value (at row.now) rule.now.head) }
 {
     let body = times_body(scale, top(scale), rule.body.literals(), row, row);
     scale.residuum(body, head_degree(rule.head, row))
@@ -57,8 +57,8 @@ fn all_below(row: &[u8], levels: u8) -> bool
 }
 
 fn judge<S: Scale>(scale: &S, rules: &[Rule], row: &[u8]) -> Verdict
-    requires { (Degrees (meaning scale.now) row.now) × ((Rules (meaning scale.now) (length row.now) rules.now) × (length row.now ≤ 16)) }
-    ensures { Judged (meaning scale.now) (map clause_of rules.now) (length row.now) row.now result }
+    requires { (Degrees (S.meaning scale.now) row.now) × ((Rules (S.meaning scale.now) (length row.now) rules.now) × (length row.now ≤ 16)) }
+    ensures { Judged (S.meaning scale.now) (map clause_of rules.now) (length row.now) row.now result }
 {
     if let Some(i) = first_broken(scale, rules, row) {
         let residuum = residuum_of(scale, &rules[i], row);
@@ -78,7 +78,7 @@ fn judge<S: Scale>(scale: &S, rules: &[Rule], row: &[u8]) -> Verdict
 
 // Judges a setting of a book.
 pub fn check<S: Scale>(scale: &S, book: &Book, setting: &[u8]) -> Result<Verdict, Refusal>
-    ensures { Answers (check_refusal (meaning scale.now) (ledger_of book.now) setting.now) result (Checked (meaning scale.now) (ledger_of book.now).rules (ledger_of book.now).statements setting.now) }
+    ensures { Answers (check_refusal (S.meaning scale.now) (ledger_of book.now) setting.now) result (Checked (S.meaning scale.now) (ledger_of book.now).rules (ledger_of book.now).statements setting.now) }
 {
     let levels = book.levels();
     if !all_below(setting, levels) {
@@ -95,7 +95,7 @@ pub fn check<S: Scale>(scale: &S, book: &Book, setting: &[u8]) -> Result<Verdict
 
 // How far rule i of a book demands its head at a setting: its yield there.
 pub fn yield_at<S: Scale>(scale: &S, book: &Book, i: usize, setting: &[u8]) -> Result<u8, Refusal>
-    ensures { Answers (yield_refusal (meaning scale.now) (ledger_of book.now) i setting.now) result (YieldAt (meaning scale.now) (ledger_of book.now).rules i setting.now) }
+    ensures { Answers (yield_refusal (S.meaning scale.now) (ledger_of book.now) i setting.now) result (YieldAt (S.meaning scale.now) (ledger_of book.now).rules i setting.now) }
 {
     let levels = book.levels();
     if !all_below(setting, levels) {

@@ -9,7 +9,7 @@ use scale::{Refusal, Scale};
 // The most rounds that raising a book's settings can take, statements × height. Its contract has what raising does under
 // every setting: it ascends, stands still in time, at the least model, and the scenes are the answer sets.
 pub fn most_rounds<S: Scale>(scale: &S, book: &Book) -> Result<u32, Refusal>
-    ensures { Answers (most_rounds_refusal (meaning scale.now) (ledger_of book.now)) result (Raisings (meaning scale.now) (ledger_of book.now).rules (ledger_of book.now).statements) }
+    ensures { Answers (most_rounds_refusal (S.meaning scale.now) (ledger_of book.now)) result (Raisings (S.meaning scale.now) (ledger_of book.now).rules (ledger_of book.now).statements) }
 {
     if scale.levels() != book.levels() {
         return Err(Refusal::LevelsDiffer);

@@ -13,8 +13,8 @@ pub(crate) const MOST_STATEMENTS: usize = 16;
 
 // Writes one raising of `lower` under `upper` to `next`.
 fn raise<S: Scale>(scale: &S, rules: &[Rule], upper: &[u8], lower: &[u8], next: &mut [u8])
-    requires { (Degrees (meaning scale.now) lower.now) × ((Degrees (meaning scale.now) upper.now) × ((Rules (meaning scale.now) (length upper.now) rules.now) × (length next.old ≡ length upper.now))) }
-    ensures { next.new ≡ raise (meaning scale.now) (map clause_of rules.now) (length upper.now) upper.now lower.now }
+    requires { (Degrees (S.meaning scale.now) lower.now) × ((Degrees (S.meaning scale.now) upper.now) × ((Rules (S.meaning scale.now) (length upper.now) rules.now) × (length next.old ≡ length upper.now))) }
+    ensures { next.new ≡ raise (S.meaning scale.now) (map clause_of rules.now) (length upper.now) upper.now lower.now }
 {
     for statement in 0..upper.len() {
         next[statement] = gain_of(scale, rules, statement, lower, upper);
@@ -51,9 +51,9 @@ pub(crate) fn least_model<S: Scale>(
     upper: &[u8],
     lower: &mut [u8],
 ) -> u32
-    requires { (Degrees (meaning scale.now) upper.now) × ((Rules (meaning scale.now) (length upper.now) rules.now) × ((length lower.old ≡ length upper.now) × (length upper.now ≤ 16))) }
-    ensures rounds { Rounds (meaning scale.now) (map clause_of rules.now) (length upper.now) upper.now result }
-    ensures after { lower.new ≡ raised (meaning scale.now) (map clause_of rules.now) (length upper.now) upper.now result }
+    requires { (Degrees (S.meaning scale.now) upper.now) × ((Rules (S.meaning scale.now) (length upper.now) rules.now) × ((length lower.old ≡ length upper.now) × (length upper.now ≤ 16))) }
+    ensures rounds { Rounds (S.meaning scale.now) (map clause_of rules.now) (length upper.now) upper.now result }
+    ensures after { lower.new ≡ raised (S.meaning scale.now) (map clause_of rules.now) (length upper.now) upper.now result }
 {
     let mut row = [0; MOST_STATEMENTS];
     let next = &mut row[0..upper.len()];

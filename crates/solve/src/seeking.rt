@@ -19,8 +19,8 @@ const MOST_SETTINGS: u32 = 65_536;
 
 // Does one raising leave the setting alone?
 fn stands<S: Scale>(scale: &S, rules: &[Rule], row: &[u8]) -> bool
-    requires { (Degrees (meaning scale.now) row.now) × (Rules (meaning scale.now) (length row.now) rules.now) }
-    ensures { MatchBool result (raise (meaning scale.now) (map clause_of rules.now) (length row.now) row.now row.now ≡ row.now) (raise (meaning scale.now) (map clause_of rules.now) (length row.now) row.now row.now ≢ row.now) }
+    requires { (Degrees (S.meaning scale.now) row.now) × (Rules (S.meaning scale.now) (length row.now) rules.now) }
+    ensures { MatchBool result (raise (S.meaning scale.now) (map clause_of rules.now) (length row.now) row.now row.now ≡ row.now) (raise (S.meaning scale.now) (map clause_of rules.now) (length row.now) row.now row.now ≢ row.now) }
 {
     for statement in 0..row.len() {
         if gain_of(scale, rules, statement, row, row) != row[statement] {
@@ -32,8 +32,8 @@ fn stands<S: Scale>(scale: &S, rules: &[Rule], row: &[u8]) -> bool
 
 // The rounds of a scene; nothing where the setting is none. Most settings fail the cheap test and need no least model.
 fn scene_rounds<S: Scale>(scale: &S, rules: &[Rule], row: &[u8]) -> Option<u32>
-    requires { (Degrees (meaning scale.now) row.now) × ((Rules (meaning scale.now) (length row.now) rules.now) × (length row.now ≤ 16)) }
-    ensures { MatchOption result (Scene (meaning scale.now) (map clause_of rules.now) (length row.now) row.now → ⊥) (λ rounds. SceneAfter (meaning scale.now) (map clause_of rules.now) (length row.now) row.now rounds) }
+    requires { (Degrees (S.meaning scale.now) row.now) × ((Rules (S.meaning scale.now) (length row.now) rules.now) × (length row.now ≤ 16)) }
+    ensures { MatchOption result (Scene (S.meaning scale.now) (map clause_of rules.now) (length row.now) row.now → ⊥) (λ rounds. SceneAfter (S.meaning scale.now) (map clause_of rules.now) (length row.now) row.now rounds) }
 {
     if !stands(scale, rules, row) {
         return None;
@@ -55,8 +55,8 @@ fn first_scene<S: Scale>(
     count: u64,
     row: &mut [u8],
 ) -> Option<(u64, u32)>
-    requires { (Rules (meaning scale.now) (length row.old) rules.now) × ((length row.old ≤ 16) × ((count ≡ (meaning scale.now).levels ^ length row.old) × (1 ≤ (meaning scale.now).levels))) }
-    ensures { MatchOption result (NoSceneBetween (meaning scale.now) (map clause_of rules.now) (length row.old) start count) (λ found. FirstScene (meaning scale.now) (map clause_of rules.now) (length row.old) start row.new found.0 found.1) }
+    requires { (Rules (S.meaning scale.now) (length row.old) rules.now) × ((length row.old ≤ 16) × ((count ≡ (S.meaning scale.now).levels ^ length row.old) × (1 ≤ (S.meaning scale.now).levels))) }
+    ensures { MatchOption result (NoSceneBetween (S.meaning scale.now) (map clause_of rules.now) (length row.old) start count) (λ found. FirstScene (S.meaning scale.now) (map clause_of rules.now) (length row.old) start row.new found.0 found.1) }
 {
     let levels = scale.levels();
     for position in start..count {
@@ -76,8 +76,8 @@ fn search<S: Scale>(
     count: u64,
     place: &mut [u8],
 ) -> Option<(u64, u32)>
-    requires { (Rules (meaning scale.now) (length place.old) rules.now) × ((length place.old ≤ 16) × ((count ≡ (meaning scale.now).levels ^ length place.old) × (1 ≤ (meaning scale.now).levels))) }
-    ensures { Sought (meaning scale.now) (map clause_of rules.now) (length place.old) start place.old place.new result }
+    requires { (Rules (S.meaning scale.now) (length place.old) rules.now) × ((length place.old ≤ 16) × ((count ≡ (S.meaning scale.now).levels ^ length place.old) × (1 ≤ (S.meaning scale.now).levels))) }
+    ensures { Sought (S.meaning scale.now) (map clause_of rules.now) (length place.old) start place.old place.new result }
 {
     let mut candidate = [0; MOST_STATEMENTS];
     let row = &mut candidate[0..place.len()];
@@ -96,7 +96,7 @@ pub fn seek<S: Scale>(
     start: u64,
     place: &mut [u8],
 ) -> Result<Option<(u64, u32)>, Refusal>
-    ensures answer { Answers (seek_refusal (meaning scale.now) (ledger_of book.now) place.old) result (Found (meaning scale.now) (ledger_of book.now).rules (ledger_of book.now).statements start place.old place.new) }
+    ensures answer { Answers (seek_refusal (S.meaning scale.now) (ledger_of book.now) place.old) result (Found (S.meaning scale.now) (ledger_of book.now).rules (ledger_of book.now).statements start place.old place.new) }
     ensures refused { is_ok result ≡ false → place.new ≡ place.old }
 {
     let levels = book.levels();

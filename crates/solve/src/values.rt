@@ -20,13 +20,13 @@ pub(crate) fn degree(row: &[u8], statement: u8) -> u8
 }
 
 pub(crate) fn top<S: Scale>(scale: &S) -> u8
-    ensures { result ≡ top (meaning scale.now) }
+    ensures { result ≡ top (S.meaning scale.now) }
 {
     scale.levels().saturating_sub(1)
 }
 
 fn literal_value<S: Scale>(scale: &S, literal: Literal, lower: &[u8], upper: &[u8]) -> u8
-    ensures { Degrees (meaning scale.now) lower.now → Degrees (meaning scale.now) upper.now → literal_fits (meaning scale.now).levels literal ≡ true → result ≡ value (meaning scale.now) (at lower.now) (at upper.now) literal }
+    ensures { Degrees (S.meaning scale.now) lower.now → Degrees (S.meaning scale.now) upper.now → literal_fits (S.meaning scale.now).levels literal ≡ true → result ≡ value (S.meaning scale.now) (at lower.now) (at upper.now) literal }
 {
     match literal {
         Literal::Plain(s) => degree(lower, s),
@@ -49,7 +49,7 @@ pub(crate) fn times_body<S: Scale>(
     lower: &[u8],
     upper: &[u8],
 ) -> u8
-    ensures { Degrees (meaning scale.now) lower.now → Degrees (meaning scale.now) upper.now → start < (meaning scale.now).levels → every (literal_fits (meaning scale.now).levels) body.now ≡ true → result ≡ (meaning scale.now).product start (body_value (meaning scale.now) (at lower.now) (at upper.now) body.now) }
+    ensures { Degrees (S.meaning scale.now) lower.now → Degrees (S.meaning scale.now) upper.now → start < (S.meaning scale.now).levels → every (literal_fits (S.meaning scale.now).levels) body.now ≡ true → result ≡ (S.meaning scale.now).product start (body_value (S.meaning scale.now) (at lower.now) (at upper.now) body.now) }
 {
     let mut product = start;
     for literal in body {
@@ -60,7 +60,7 @@ pub(crate) fn times_body<S: Scale>(
 
 // How far a rule demands its head.
 pub(crate) fn rule_yield<S: Scale>(scale: &S, rule: &Rule, lower: &[u8], upper: &[u8]) -> u8
-    ensures { Degrees (meaning scale.now) lower.now → Degrees (meaning scale.now) upper.now → fits (meaning scale.now).levels (clause_of rule.now) ≡ true → result ≡ yield (meaning scale.now) (at lower.now) (at upper.now) (clause_of rule.now) }
+    ensures { Degrees (S.meaning scale.now) lower.now → Degrees (S.meaning scale.now) upper.now → fits (S.meaning scale.now).levels (clause_of rule.now) ≡ true → result ≡ yield (S.meaning scale.now) (at lower.now) (at upper.now) (clause_of rule.now) }
 {
     times_body(scale, rule.weight, rule.body.literals(), lower, upper)
 }
@@ -68,7 +68,7 @@ pub(crate) fn rule_yield<S: Scale>(scale: &S, rule: &Rule, lower: &[u8], upper: 
 // Does the rule hold: is its yield below its head, or below its bound? That is what is answered wherever the rows and the
 // rule have degrees of the scale only.
 pub fn rule_holds<S: Scale>(scale: &S, rule: &Rule, lower: &[u8], upper: &[u8]) -> bool
-    ensures { Degrees (meaning scale.now) lower.now → Degrees (meaning scale.now) upper.now → fits (meaning scale.now).levels (clause_of rule.now) ≡ true → result ≡ holds (meaning scale.now) (at lower.now) (at upper.now) (clause_of rule.now) }
+    ensures { Degrees (S.meaning scale.now) lower.now → Degrees (S.meaning scale.now) upper.now → fits (S.meaning scale.now).levels (clause_of rule.now) ≡ true → result ≡ holds (S.meaning scale.now) (at lower.now) (at upper.now) (clause_of rule.now) }
 {
     scale.below(
         rule_yield(scale, rule, lower, upper),
@@ -88,8 +88,8 @@ pub(crate) fn head_degree(head: Head, lower: &[u8]) -> u8
 
 // What a rule demands of a statement: its yield where the statement is its head, otherwise nothing.
 fn rule_share<S: Scale>(scale: &S, rule: &Rule, statement: usize, lower: &[u8], upper: &[u8]) -> u8
-    requires { (Degrees (meaning scale.now) lower.now) × ((Degrees (meaning scale.now) upper.now) × (fits (meaning scale.now).levels (clause_of rule.now) ≡ true)) }
-    ensures { result ≡ share (meaning scale.now) (at lower.now) (at upper.now) (clause_of rule.now) statement }
+    requires { (Degrees (S.meaning scale.now) lower.now) × ((Degrees (S.meaning scale.now) upper.now) × (fits (S.meaning scale.now).levels (clause_of rule.now) ≡ true)) }
+    ensures { result ≡ share (S.meaning scale.now) (at lower.now) (at upper.now) (clause_of rule.now) statement }
 {
     match rule.head {
         Head::Statement(s) if usize::from(s) == statement => rule_yield(scale, rule, lower, upper),
@@ -105,8 +105,8 @@ pub(crate) fn gain_of<S: Scale>(
     lower: &[u8],
     upper: &[u8],
 ) -> u8
-    requires { (Degrees (meaning scale.now) lower.now) × ((Degrees (meaning scale.now) upper.now) × (Rules (meaning scale.now) (length upper.now) rules.now)) }
-    ensures { result ≡ gain (meaning scale.now) (at lower.now) (at upper.now) (map clause_of rules.now) statement }
+    requires { (Degrees (S.meaning scale.now) lower.now) × ((Degrees (S.meaning scale.now) upper.now) × (Rules (S.meaning scale.now) (length upper.now) rules.now)) }
+    ensures { result ≡ gain (S.meaning scale.now) (at lower.now) (at upper.now) (map clause_of rules.now) statement }
 {
     let mut gain = 0;
     for rule in rules {

@@ -19,11 +19,11 @@ many (a ∷ b ∷ []) e = absurd (omega arith)
 many (a ∷ b ∷ c ∷ []) e = absurd (omega arith)
 many (a ∷ b ∷ c ∷ d ∷ ts) e = refl
 
-pub returns-in_err-name_in : goal.returns-in_err-name_in
-returns-in_err-name_in c = ap (option_map seen_term) c.from_residual.ensures ∙ ap (λ o. then o (λ n. Some (plain n))) c.in_err-name_in.ensures ∙ sym (ap term_of (one said c.args.part.now nothing (search rules)))
+pub returns-in_err-name_in-in-len1 : goal.returns-in_err-name_in-in-len1
+returns-in_err-name_in-in-len1 c = ap (option_map seen_term) c.from_residual.ensures ∙ ap (λ o. then o (λ n. Some (plain n))) c.in_err-name_in-in-len1.ensures ∙ sym (ap term_of (one said c.args.part.now nothing (search rules)))
 
-pub returns-in_ok-name_in : goal.returns-in_ok-name_in
-returns-in_ok-name_in c = ap (λ o. then o (λ n. Some (plain n))) c.in_ok-name_in.ensures ∙ sym (ap term_of (one said c.args.part.now nothing (search rules)))
+pub returns-in_ok-name_in-in-len1 : goal.returns-in_ok-name_in-in-len1
+returns-in_ok-name_in-in-len1 c = ap (λ o. then o (λ n. Some (plain n))) c.in_ok-name_in-in-len1.ensures ∙ sym (ap term_of (one said c.args.part.now nothing (search rules)))
 
 pub returns-in-len2 : goal.returns-in-len2
 returns-in-len2 c = c.parse_lacking.ensures ∙ sym (ap term_of (two said c.args.part.now nothing (search rules)))

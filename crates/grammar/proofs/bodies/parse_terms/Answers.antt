@@ -57,7 +57,7 @@ overflow_add-start c = let h = within (goal.at.overflow_add-start c).After-part_
 pub loop-start-preserved : goal.loop-start-preserved
 loop-start-preserved c =
     let run = (goal.at.loop-start-preserved c).After-part_len in
-    let items = ap (map seen_term) c.in_ok-push.ensures.items ∙ map_push seen_term (vec_items c.loop-start.terms) c.in-Some.term in
+    let items = ap (map seen_term) c.in_ok-push-in-Some.ensures.items ∙ map_push seen_term (vec_items c.loop-start.terms) c.in-Some.term in
     ap (λ l. after l (traversed term_of (left is_comma (c.loop-start.start + c.part_len.result + 1) (map said c.args.tokens.now)))) items ∙ after_more term_of (map seen_term (vec_items c.loop-start.terms)) (part run) (others run) (seen_term c.in-Some.term) (sym c.in-Some.ensures) ∙ sym (ap (λ l. after (map seen_term (vec_items c.loop-start.terms)) (traversed term_of l)) (next run)) ∙ c.loop-start.invariant
 
 pub returns : goal.returns

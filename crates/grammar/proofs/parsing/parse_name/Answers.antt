@@ -17,11 +17,11 @@ many [] e = absurd (omega arith)
 many (a ∷ []) e = absurd (omega arith)
 many (a ∷ b ∷ ts) e = refl
 
-pub returns-in_err-name_in : goal.returns-in_err-name_in
-returns-in_err-name_in c = ap (option_map seen_line) c.from_residual.ensures ∙ ap (λ o. then o (λ n. Some (name n))) c.in_err-name_in.ensures ∙ sym (ap name_line_of (one said c.args.tokens.now nothing (search rules)))
+pub returns-in_err-name_in-in-len1 : goal.returns-in_err-name_in-in-len1
+returns-in_err-name_in-in-len1 c = ap (option_map seen_line) c.from_residual.ensures ∙ ap (λ o. then o (λ n. Some (name n))) c.in_err-name_in-in-len1.ensures ∙ sym (ap name_line_of (one said c.args.tokens.now nothing (search rules)))
 
-pub returns-in_ok-name_in : goal.returns-in_ok-name_in
-returns-in_ok-name_in c = ap (λ o. then o (λ n. Some (name n))) c.in_ok-name_in.ensures ∙ sym (ap name_line_of (one said c.args.tokens.now nothing (search rules)))
+pub returns-in_ok-name_in-in-len1 : goal.returns-in_ok-name_in-in-len1
+returns-in_ok-name_in-in-len1 c = ap (λ o. then o (λ n. Some (name n))) c.in_ok-name_in-in-len1.ensures ∙ sym (ap name_line_of (one said c.args.tokens.now nothing (search rules)))
 
 pub returns-in_default : goal.returns-in_default
 returns-in_default c = elim c.in_default.branch [ in_default-via-then-tokens-lt1 w ↦ few c.args.tokens.now (search rules) | in_default-via-else-tokens-lt1+else-tokens-lt2 w ↦ many c.args.tokens.now (search rules) ]

@@ -26,14 +26,14 @@ kind_none p e = ap (λ x. then x (λ k. then p (λ d. Some (scale k d)))) e
 kind_some : {o : Option ScaleKind} {p q : Option (List ℕ)} {k : ScaleKind} → Some k ≡ o → q ≡ p → then q (λ d. Some (scale k d)) ≡ then o (λ m. then p (λ d. Some (scale m d)))
 kind_some {o} {p} {q} {k} e f = ap (λ y. then y (λ d. Some (scale k d))) f ∙ ap (λ x. then x (λ m. then p (λ d. Some (scale m d)))) e
 
-pub returns-in_err-kind_in : goal.returns-in_err-kind_in
-returns-in_err-kind_in c = ap (option_map seen_line) c.from_residual.ensures ∙ kind_none _ c.in_err-kind_in.ensures ∙ sym (ap scale_line_of (two said c.args.tokens.now nothing (search rules)))
+pub returns-in_err-kind_in-in-len2 : goal.returns-in_err-kind_in-in-len2
+returns-in_err-kind_in-in-len2 c = ap (option_map seen_line) c.from_residual.ensures ∙ kind_none _ c.in_err-kind_in-in-len2.ensures ∙ sym (ap scale_line_of (two said c.args.tokens.now nothing (search rules)))
 
-pub returns-in_err-number_in : goal.returns-in_err-number_in
-returns-in_err-number_in c = ap (option_map seen_line) c.from_residual-in_err-number_in.ensures ∙ kind_some c.in_ok-kind_in.ensures c.in_err-number_in.ensures ∙ sym (ap scale_line_of (two said c.args.tokens.now nothing (search rules)))
+pub returns-in_err-number_in-in-len2 : goal.returns-in_err-number_in-in-len2
+returns-in_err-number_in-in-len2 c = ap (option_map seen_line) c.from_residual-in_err-number_in-in-len2.ensures ∙ kind_some c.in_ok-kind_in-in-len2.ensures c.in_err-number_in-in-len2.ensures ∙ sym (ap scale_line_of (two said c.args.tokens.now nothing (search rules)))
 
-pub returns-in_ok-number_in : goal.returns-in_ok-number_in
-returns-in_ok-number_in c = kind_some c.in_ok-kind_in.ensures c.in_ok-number_in.ensures ∙ sym (ap scale_line_of (two said c.args.tokens.now nothing (search rules)))
+pub returns-in_ok-number_in-in-len2 : goal.returns-in_ok-number_in-in-len2
+returns-in_ok-number_in-in-len2 c = kind_some c.in_ok-kind_in-in-len2.ensures c.in_ok-number_in-in-len2.ensures ∙ sym (ap scale_line_of (two said c.args.tokens.now nothing (search rules)))
 
 pub returns-in_default : goal.returns-in_default
 returns-in_default c = elim c.in_default.branch [ in_default-via-then-tokens-lt2 w ↦ few c.args.tokens.now (search rules) | in_default-via-else-tokens-lt2+else-tokens-lt3 w ↦ many c.args.tokens.now (search rules) ]
