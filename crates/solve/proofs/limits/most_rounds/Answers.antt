@@ -10,8 +10,8 @@ use Rattle.solve.proofs.limits.most_rounds.Goals as goal
 
 pub overflow_mul-result : goal.overflow_mul-result
 overflow_mul-result g c =
-    let few : c.from.result ≤ 255 = omega (arith, c.from.ensures, c.statements.type-inv) in
-    let low : c.from-2.result ≤ 255 = omega (arith, c.from-2.ensures, c.height.type-inv) in
+    let few : c.from.result ≤ 255 = omega (arith, c.from.ensures, c.statements.type_inv) in
+    let low : c.from-2.result ≤ 255 = omega (arith, c.from-2.ensures, c.height.type_inv) in
     omega (arith, mul-le-mul few low)
 
 pub returns : goal.returns
