@@ -33,6 +33,6 @@ loop-call-preserved g c = (
 pub returns : goal.returns
 returns g c =
     record {
-      answers = outcomes_end (g.S.Scale.meaning c.args.scale.now) (ledgers_of c.args.first.now c.args.second.now) (ledgers_of c.loop-call.first c.loop-call.second) (into_iter_items c.into_iter-call-iterator.result) (vec_items c.args.calls) (into_iter_items c.loop-call.call-iterator) (vec_items c.loop-call.outcomes) (sym c.loop-call.invariant.3 ∙ c.in-None.ensures.steps.0) c.into_iter-call-iterator.ensures.into_iter-gives.0 c.loop-call.invariant.4;
-      changes = ledgers_end (ledgers_of c.args.first.now c.args.second.now) (ledgers_of c.loop-call.first c.loop-call.second) (into_iter_items c.into_iter-call-iterator.result) (vec_items c.args.calls) (into_iter_items c.loop-call.call-iterator) (sym c.loop-call.invariant.3 ∙ c.in-None.ensures.steps.0) c.into_iter-call-iterator.ensures.into_iter-gives.0 c.loop-call.invariant.5;
+      answers = outcomes_end (g.S.Scale.meaning c.args.scale.now) (ledgers_of c.args.first.now c.args.second.now) (ledgers_of c.loop-call.first c.loop-call.second) (into_iter_items c.into_iter-call-iterator.result) (vec_items c.args.calls) (into_iter_items c.loop-call.call-iterator) (vec_items c.loop-call.outcomes) (sym c.loop-call.invariant.3 ∙ c.in-None.ensures.steps.0) c.into_iter-call-iterator.ensures.into_iter_gives.0 c.loop-call.invariant.4;
+      changes = ledgers_end (ledgers_of c.args.first.now c.args.second.now) (ledgers_of c.loop-call.first c.loop-call.second) (into_iter_items c.into_iter-call-iterator.result) (vec_items c.args.calls) (into_iter_items c.loop-call.call-iterator) (sym c.loop-call.invariant.3 ∙ c.in-None.ensures.steps.0) c.into_iter-call-iterator.ensures.into_iter_gives.0 c.loop-call.invariant.5;
     }

@@ -20,7 +20,7 @@ pub loop-term-preserved : goal.loop-term-preserved
 loop-term-preserved c =
     let f = literal_of (map (λ x. x.now) c.args.names.now) in
     let rest = map seen_term (drop (c.loop-term.term-index + 1) c.args.terms.now) in
-    ap (λ l. after l (traversed f (map seen_term (drop (c.loop-term.term-index + 1) c.args.terms.now)))) c.in_ok-push.ensures.items ∙ after_more f (vec_items c.loop-term.body) (seen_term (get_or c.args.terms.now c.loop-term.term-index no_term)) rest c.in-Some.literal (sym c.in-Some.ensures) ∙ sym (ap (after (vec_items c.loop-term.body)) (at_drop_more (λ l. traversed f (map seen_term l)) c.args.terms.now c.loop-term.term-index no_term c.loop-term-test.true)) ∙ c.loop-term.invariant
+    ap (λ l. after l (traversed f (map seen_term (drop (c.loop-term.term-index + 1) c.args.terms.now)))) c.in_ok-push-in-Some.ensures.items ∙ after_more f (vec_items c.loop-term.body) (seen_term (get_or c.args.terms.now c.loop-term.term-index no_term)) rest c.in-Some.literal (sym c.in-Some.ensures) ∙ sym (ap (after (vec_items c.loop-term.body)) (at_drop_more (λ l. traversed f (map seen_term l)) c.args.terms.now c.loop-term.term-index no_term c.loop-term-test.true)) ∙ c.loop-term.invariant
 
 pub returns : goal.returns
 returns c =

@@ -11,9 +11,9 @@ use Rattle.text.specs.Numerals.{capped}
 use Rattle.grammar.specs.Shapes.{seen_lead, seen_term}
 use Rattle.text.proofs.Obeying.{did_asked, ruled_asks, rule_none, rule_some}
 use Rattle.text.proofs.drafts.Draft.enter.Goals as goal
-use Rattle.text.proofs.drafts.Draft.enter.Goals.{In-ok-literals}
+use Rattle.text.proofs.drafts.Draft.enter.Goals.{In_ok-literals}
 
-module _ (c : In-ok-literals) where
+module _ (c : In_ok-literals) where
   head : Some c.in-Some.head ≡ head_of (state_of c.args.self.now).names (seen_lead c.args.lead)
   head = c.in-Some.ensures ∙ ap (λ l. head_of (map (λ x. x.now) l) (seen_lead c.args.lead)) c.as_slice.ensures.value
 
@@ -22,13 +22,13 @@ module _ (c : In-ok-literals) where
 
 pub returns-in_default-2 : goal.returns-in_default-2
 returns-in_default-2 c =
-    let before = (goal.at.returns-in_default-2 c).In-ok-literals in
+    let before = (goal.at.returns-in_default-2 c).In_ok-literals in
     let st = state_of c.args.self.now in
     ruled_asks st c.args.place (rule_of st.names (seen_lead c.args.lead) c.args.weight.now (map seen_term c.args.body.now)) c.if-is_none.ensures ∙ ap (entering st c.args.place) (rule_none st.names (seen_lead c.args.lead) c.args.weight.now (map seen_term c.args.body.now) c.in-Some.head (head before) (sym (ap (option_map vec_items) c.in_default-2.is) ∙ body before))
 
 pub returns : goal.returns
 returns c =
-    let before = (goal.at.returns c).In-ok-literals in
+    let before = (goal.at.returns c).In_ok-literals in
     let st = state_of c.args.self.now in
     let found : c.in_ok-literals.field-0 ≡ Some c.in-Some-2.literals = c.in-Some-2.is in
     let rule = clause c.in-Some.head (capped c.args.weight.now) (vec_items c.in-Some-2.literals) in
