@@ -72,7 +72,7 @@ fn print_refused(rt: &HostRuntime, number: u8, line: usize, byte: usize) -> anyh
 pub fn print_fault(rt: &HostRuntime, source: &str, fault: ReadFault) -> anyhow::Result<()> {
     let words = fault_words(fault);
     if let ReadFault::NoMemory = fault {
-        return Err(words.into());
+        return Err(anyhow!(words));
     }
     let line = fault.line();
     print_refused(rt, fault.number(), line, fault.byte())?;
@@ -94,10 +94,11 @@ pub fn finish(rt: &HostRuntime, work: Result<(), Stop>) -> anyhow::Result<()> {
     }
 }
 
-// What a program ends with: a failure is told on standard error, with the program's name, and ends it with status 1.
+// What a program ends with: a failure is handed to `main` under the program's name, and `main` tells it on standard error
+// and ends with status 1.
 pub fn end(rt: &HostRuntime, program: &str, res: anyhow::Result<()>) -> anyhow::Result<()> {
-    if let Err(error) = &res {
-        eprintln!(rt; "{program}: {error}")?;
+    match res {
+        Ok(()) => Ok(()),
+        Err(error) => Err(anyhow!(format!(in rt.alloc(); "{program}: {error}")?)),
     }
-    res
 }
