@@ -57,8 +57,8 @@ fn answer_agrees<S: Scale>(
     verdict: &[u8],
 ) -> Result<bool, Refusal> {
     match answer {
-        Comparison::Equal => Ok(verdict == b"equal"),
-        Comparison::Unequal { .. } if verdict != b"unequal" => Ok(false),
+        Comparison::Equal => Ok(verdict == b"equal".as_slice()),
+        Comparison::Unequal { .. } if verdict != b"unequal".as_slice() => Ok(false),
         Comparison::Unequal { rules, .. } if rules > addendum.len() => Ok(false),
         Comparison::Unequal {
             book: Which::First,
