@@ -1,6 +1,6 @@
 -- Every rule of a book is lawful on the book's levels and statements.
 use Rattle.std.proofs.Common.{◌≡◌, ℕ, true, get_or, vec_items, arith}
-use Rattle.std.specs.List.{AllByRecursion as All}
+use Rattle.std.specs.List.{AllByRecursion}
 use Rattle.std.proofs.ByRecursion.{All-from_get_or, All-map}
 use Rattle.std.proofs.lemmas.List.{length-take}
 use Rattle.std.proofs.lemmas.Bool.{and_parts, le-leb}
@@ -16,7 +16,7 @@ row_lawful levels statements r k =
     let parts = and_parts (known statements (clause_of r)) (fits levels (clause_of r)) k in
     record { knows = parts.0; degrees = parts.1; short = le-leb _ 4 (omega (arith, length-take r.body.len r.body.literals, r.body.short)) }
 
-pub book_lawful : (b : Book) → All (Lawful b.levels b.statements) (ledger_of b).rules
+pub book_lawful : (b : Book) → AllByRecursion (Lawful b.levels b.statements) (ledger_of b).rules
 book_lawful b =
     let rows = b.table.rows in
     All-map (Lawful b.levels b.statements) clause_of (vec_items rows)

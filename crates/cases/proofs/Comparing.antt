@@ -6,7 +6,7 @@ use Rattle.book.specs.Ledger.{Clause, Lawful, every}
 use Rattle.book.specs.declared.rule.Head.TheVariants.{Statement, Bound}
 use Rattle.theory.specs.AnswerSet.{Under}
 use Rattle.theory.specs.Equivalence.{Pair, SamePairs, StronglyEquivalent}
-use Rattle.theory.specs.Semantics.{at, All, Setting, holds, StatementHolds}
+use Rattle.theory.specs.Semantics.{at, AllByRecursion, Setting, holds, StatementHolds}
 use Rattle.theory.proofs.Apart.{same_pairs}
 use Rattle.theory.proofs.Order.{zero_degree}
 use Rattle.theory.proofs.Pairs.{strongly_equivalent}
@@ -110,7 +110,7 @@ module _ (m : Meaning) (n : ℕ) (first second : List Clause) where
         (λ e. pair_passes m lower upper second ((same lower upper).0 (passes_pair m lower upper first here there under e)))
         (λ e. pair_passes m lower upper first ((same lower upper).1 (passes_pair m lower upper second here there under e))))))
 
-    pub pairs_decide : All (Lawful m.levels n) first → All (Lawful m.levels n) second → (pairs_alike ≡ true) ↔ StronglyEquivalent m n first second
+    pub pairs_decide : AllByRecursion (Lawful m.levels n) first → AllByRecursion (Lawful m.levels n) second → (pairs_alike ≡ true) ↔ StronglyEquivalent m n first second
     pairs_decide lawful-first lawful-second = (
       λ e. strongly_equivalent laws n first second lawful-first lawful-second (alike_same e),
       λ equivalent. same_alike (same_pairs laws n first second lawful-first lawful-second equivalent),

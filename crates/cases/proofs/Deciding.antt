@@ -3,7 +3,7 @@ use Rattle.std.proofs.Common.{◌≡◌, ℕ, Bool, true, not, ◌&&◌, eqb, lt
 use Rattle.std.proofs.lemmas.Bool.{and_parts, and_from, not-true, both_ways, eqb-true, ltb-true}
 use Rattle.scale.specs.Meaning.{Meaning, Laws}
 use Rattle.book.specs.Ledger.{Clause, Lawful, every, known, fits}
-use Rattle.theory.specs.Semantics.{All, Setting}
+use Rattle.theory.specs.Semantics.{AllByRecursion, Setting}
 use Rattle.solve.proofs.Books.{degrees_from}
 use Rattle.cases.specs.Claims.{Claim, scenes_at, verdict_on, equivalent_to, not_equivalent_to, Case, LawfulOn, Says, Holds}
 use Rattle.cases.proofs.Comparing.{pairs_alike, pairs_decide}
@@ -62,7 +62,7 @@ module _ (c : Case) where
       let too = lawful_from others parts.0 in
       (too, λ equivalent. both_ways (pairs_alike c.scale c.statements c.rules others) (not-true _ parts.1) ((pairs_decide c.scale c.statements c.rules others laws lawful too).1 equivalent))
 
-  all_say : LawfulOn c c.rules → (claims : List Claim) → All Grounds claims → every is_so claims ≡ true → All (Says c) claims
+  all_say : LawfulOn c c.rules → (claims : List Claim) → AllByRecursion Grounds claims → every is_so claims ≡ true → AllByRecursion (Says c) claims
   all_say lawful [] grounds e = tt
   all_say lawful (claim ∷ claims) grounds e =
       let parts = and_parts (is_so claim) (every is_so claims) e in
@@ -71,7 +71,7 @@ module _ (c : Case) where
   abbrev pub passes : Bool
   passes = every is_lawful c.rules && every is_so c.claims
 
-  pub holds : All Grounds c.claims → passes ≡ true → Holds c
+  pub holds : AllByRecursion Grounds c.claims → passes ≡ true → Holds c
   holds grounds e =
       let parts = and_parts (every is_lawful c.rules) (every is_so c.claims) e in
       let lawful = lawful_from c.rules parts.0 in

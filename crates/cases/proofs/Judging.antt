@@ -1,6 +1,6 @@
 -- Deciding the verdict on a setting, and which settings are scenes, by raising until it stands still.
 use Rattle.std.proofs.Common.{◌≡◌, ℕ, zero, suc, ◌*◌, ◌<◌, Bool, true, false, cond, not, ◌&&◌, ◌||◌, eqb, ltb, ◌↔◌, List, [], ◌∷◌, length, get_or, replicate, sym, refl, ap, ◌∙◌, subst, inl, inr, arith}
-use Rattle.std.specs.List.{ContainsAt as Has}
+use Rattle.std.specs.List.{ContainsAt}
 use Rattle.std.specs.Str.{bytes_eq}
 use Rattle.std.proofs.lemmas.Slice.Eq.{bytes_eq-Decides}
 use Rattle.std.proofs.lemmas.Bool.{and_parts, and_from, or_cases, or_left, or_right, not-true, both_ways, cases_Bool, cases_eq, eq-eqb, eqb-true, eqb-false, ltb-true, false≢true}
@@ -21,7 +21,7 @@ abbrev member : List ℕ → ℕ → Bool
 member [] x = false
 member (y ∷ ys) x = eqb y x || member ys x
 
-member_has : (ys : List ℕ) (x : ℕ) → member ys x ≡ true → Has ys x
+member_has : (ys : List ℕ) (x : ℕ) → member ys x ≡ true → ContainsAt ys x
 member_has [] x e = absurd (false≢true e)
 member_has (y ∷ ys) x e =
     elim (or_cases (eqb y x) (member ys x) e) [
@@ -34,7 +34,7 @@ placed [] x k h is = absurd (omega arith)
 placed (y ∷ ys) x zero h is = or_left (eqb y x) (member ys x) (eq-eqb y x (is 0))
 placed (y ∷ ys) x (suc k) h is = or_right (eqb y x) (member ys x) (placed ys x k (omega arith) is)
 
-has_member : (ys : List ℕ) (x : ℕ) → Has ys x → member ys x ≡ true
+has_member : (ys : List ℕ) (x : ℕ) → ContainsAt ys x → member ys x ≡ true
 has_member ys x h = placed ys x h.0 h.1 h.2
 
 module _ (m : Meaning) (cs : List Clause) (n : ℕ) (upper : List ℕ) where
@@ -177,7 +177,7 @@ module _ (m : Meaning) (cs : List Clause) (n : ℕ) (positions : List ℕ) where
   abbrev pub scenes_listed : Bool
   scenes_listed = every_row m.levels n listed
 
-  pub scenes_exactly : scenes_listed ≡ true → (row : List ℕ) → Setting m n row → Scene m cs n row ↔ Has positions (position m.levels row)
+  pub scenes_exactly : scenes_listed ≡ true → (row : List ℕ) → Setting m n row → Scene m cs n row ↔ ContainsAt positions (position m.levels row)
   scenes_exactly e row setting =
       let place = position m.levels row in
       let found = least_row m cs n row (as_listed row) (row_passes m.levels n listed e row setting.long setting.degrees) in

@@ -2,10 +2,10 @@
 use Rattle.std.proofs.Common.{◌≡◌, ℕ, zero, suc, ◌<◌, Bool, true, false, not, ◌&&◌, ◌↔◌, List, [], ◌∷◌, length, refl, ap, inl, inr, arith}
 use Rattle.std.proofs.lemmas.Bool.{and_parts, and_from, cases_eq, false≢true}
 use Rattle.book.specs.Ledger.{every}
-use Rattle.theory.specs.Semantics.{at, All}
+use Rattle.theory.specs.Semantics.{at, AllByRecursion}
 
 -- a test that decides of each element what P says decides it of all
-pub every_decides : {A : Type 0} {P : A → Type 0} (f : A → Bool) → ((x : A) → (f x ≡ true) ↔ P x) → (xs : List A) → (every f xs ≡ true) ↔ All P xs
+pub every_decides : {A : Type 0} {P : A → Type 0} (f : A → Bool) → ((x : A) → (f x ≡ true) ↔ P x) → (xs : List A) → (every f xs ≡ true) ↔ AllByRecursion P xs
 every_decides f each [] = (λ e. tt, λ h. refl)
 every_decides f each (x ∷ xs) =
     let rest = every_decides f each xs in (

@@ -2,7 +2,7 @@
 use Rattle.std.proofs.Common.{refl, arith}
 use Rattle.scale.specs.Kinds.{luk, godel}
 use Rattle.scale.specs.Meaning.{Laws}
-use Rattle.theory.specs.Semantics.{All}
+use Rattle.theory.specs.Semantics.{AllByRecursion}
 use Rattle.cases.specs.Books.{cases}
 use Rattle.cases.specs.Claims.{Holds}
 use Rattle.cases.proofs.Deciding.{holds}
@@ -19,7 +19,7 @@ on_luk = luk_lawful 4 (omega arith) (omega arith)
 on_godel : Laws (godel 4)
 on_godel = godel_lawful 4 (omega arith) (omega arith)
 
-pub worked : All Holds cases
+pub worked : AllByRecursion Holds cases
 worked =
     holds _ (tt, tt) refl
     also holds _ (tt, tt) refl

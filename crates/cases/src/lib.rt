@@ -2,19 +2,19 @@
 #![tactic(auto)]
 
 ghost use Rattle.std.specs.Prelude.{◌≡◌, length};
-ghost use Rattle.std.specs.List.{AllByRecursion as All};
+ghost use Rattle.std.specs.List.{AllByRecursion};
 ghost use Rattle.cases.specs.Books.{cases};
 ghost use Rattle.cases.specs.Claims.{Holds};
 
 // The theorem alone, apart from the count.
 fn all_hold()
-    ensures { All Holds cases }
+    ensures { AllByRecursion Holds cases }
 {}
 
 // How many worked cases there are. Its contract has what they are for: every one holds.
 pub fn worked_books() -> usize
     ensures count { result ≡ length cases }
-    ensures hold { All Holds cases }
+    ensures hold { AllByRecursion Holds cases }
 {
     all_hold();
     16

@@ -5,7 +5,7 @@ use Rattle.scale.specs.Meaning.{Meaning, Laws}
 use Rattle.book.specs.Ledger.{Clause, Lawful}
 use Rattle.book.specs.Rows.{clause_of}
 use Rattle.theory.specs.Equivalence.{StronglyEquivalent, TellsApart, facts, addendum}
-use Rattle.theory.specs.Semantics.{All}
+use Rattle.theory.specs.Semantics.{AllByRecursion}
 use Rattle.theory.proofs.Apart.{facts_tell_apart, addendum_tells_apart, same_pairs}
 use Rattle.theory.proofs.Pairs.{strongly_equivalent}
 use Rattle.engine.specs.Comparisons.{Places, Apart, Told, Compared, is_equal, other_of}
@@ -32,7 +32,7 @@ module _ {m : Meaning} {n : ℕ} where
     rest = w.rest;
   }
 
-module _ {m : Meaning} (laws : Laws m) (n : ℕ) (first second : List Clause) (one : All (Lawful m.levels n) first) (two : All (Lawful m.levels n) second) where
+module _ {m : Meaning} (laws : Laws m) (n : ℕ) (first second : List Clause) (one : AllByRecursion (Lawful m.levels n) first) (two : AllByRecursion (Lawful m.levels n) second) where
   pub told_model : (book : Which) (lower upper : List ℕ) (before after : Places) → Differs m n first second lower upper (Some (ModelOf book)) → Written before after (facts n upper) upper n → Told m n first second before after (Unequal book n)
   told_model First lower upper before after found w = apart (facts_tell_apart laws n first second one two found.0 found.1.0 found.1.1) (omega arith) w
   told_model Second lower upper before after found w = apart (facts_tell_apart laws n second first two one found.0 found.1.0 found.1.1) (omega arith) w

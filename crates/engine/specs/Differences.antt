@@ -5,7 +5,7 @@ use Rattle.book.specs.Ledger.{Clause}
 use Rattle.theory.specs.AnswerSet.{Under}
 use Rattle.theory.specs.Equivalence.{Pair, SamePairs}
 use Rattle.theory.specs.Position.{position}
-use Rattle.theory.specs.Semantics.{All, at, Setting, StatementHolds}
+use Rattle.theory.specs.Semantics.{AllByRecursion, at, Setting, StatementHolds}
 use Rattle.book.specs.declared.rows.Rule.{Rule}
 use Rattle.solve.specs.Ready.{Degrees, Rules}
 use Rattle.solve.specs.Verdicts.{HoldsAt}
@@ -35,11 +35,11 @@ pub record Searchable (m : Meaning) (first second : List Rule) (count : ℕ) (lo
 
 -- every rule holds at the row
 abbrev pub Holds : Meaning → List ℕ → List Clause → Type 0
-Holds m row cs = All (HoldsAt m row) cs
+Holds m row cs = AllByRecursion (HoldsAt m row) cs
 
 -- every rule with a statement for its head holds at the two rows
 abbrev pub Kept : Meaning → List ℕ → List ℕ → List Clause → Type 0
-Kept m lower upper cs = All (StatementHolds m (at lower) (at upper)) cs
+Kept m lower upper cs = AllByRecursion (StatementHolds m (at lower) (at upper)) cs
 
 -- one book is satisfied at the row and the other is not
 abbrev pub ModelsOne : Meaning → List ℕ → List Clause → List Clause → Type 0

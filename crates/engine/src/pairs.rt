@@ -3,7 +3,7 @@ ghost use Rattle.std.specs.Prelude.{◌≡◌, ℕ, ◌<◌, ◌≤◌, [], ◌�
 ghost use Rattle.book.specs.Rows.{clause_of};
 ghost use Rattle.theory.specs.AnswerSet.{Under};
 ghost use Rattle.theory.specs.Position.{position};
-ghost use Rattle.theory.specs.Semantics.{All, at, StatementHolds};
+ghost use Rattle.theory.specs.Semantics.{AllByRecursion, at, StatementHolds};
 ghost use Rattle.solve.specs.Ready.{Degrees, Rules};
 ghost use Rattle.solve.specs.Verdicts.{HoldsAt};
 ghost use Rattle.engine.specs.Differences.{Advanced, Modelled, KeptBy, LowerFound, UpperFound, Differs, Searchable};
@@ -32,7 +32,7 @@ enum Models {
 // Do all rules hold at a setting?
 fn all_hold<S: Scale>(scale: &S, rules: &[Rule], row: &[u8]) -> bool
     requires { (Degrees (S.meaning scale.now) row.now) × (Rules (S.meaning scale.now) (length row.now) rules.now) }
-    ensures { MatchBool result (All (HoldsAt (S.meaning scale.now) row.now) (map clause_of rules.now)) (All (HoldsAt (S.meaning scale.now) row.now) (map clause_of rules.now) → ⊥) }
+    ensures { MatchBool result (AllByRecursion (HoldsAt (S.meaning scale.now) row.now) (map clause_of rules.now)) (AllByRecursion (HoldsAt (S.meaning scale.now) row.now) (map clause_of rules.now) → ⊥) }
 {
     for rule in rules {
         if !rule_holds(scale, rule, row, row) {
@@ -56,7 +56,7 @@ fn statement_holds<S: Scale>(scale: &S, rule: &Rule, lower: &[u8], upper: &[u8])
 // Do all rules with a statement for their head hold at a lower and an upper setting?
 fn statements_hold<S: Scale>(scale: &S, rules: &[Rule], lower: &[u8], upper: &[u8]) -> bool
     requires { (Degrees (S.meaning scale.now) lower.now) × ((Degrees (S.meaning scale.now) upper.now) × (Rules (S.meaning scale.now) (length upper.now) rules.now)) }
-    ensures { MatchBool result (All (StatementHolds (S.meaning scale.now) (at lower.now) (at upper.now)) (map clause_of rules.now)) (All (StatementHolds (S.meaning scale.now) (at lower.now) (at upper.now)) (map clause_of rules.now) → ⊥) }
+    ensures { MatchBool result (AllByRecursion (StatementHolds (S.meaning scale.now) (at lower.now) (at upper.now)) (map clause_of rules.now)) (AllByRecursion (StatementHolds (S.meaning scale.now) (at lower.now) (at upper.now)) (map clause_of rules.now) → ⊥) }
 {
     for rule in rules {
         if !statement_holds(scale, rule, lower, upper) {

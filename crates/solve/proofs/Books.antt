@@ -10,7 +10,7 @@ use Rattle.book.specs.declared.books.Book.{Book}
 use Rattle.book.specs.declared.rows.Rule.{Rule}
 use Rattle.book.proofs.Every.{every_at}
 use Rattle.book.proofs.Lawfulness.{book_lawful}
-use Rattle.theory.specs.Semantics.{All, at}
+use Rattle.theory.specs.Semantics.{AllByRecursion, at}
 use Rattle.theory.proofs.Lists.{all_from_map}
 use Rattle.solve.specs.Ready.{Rules}
 
@@ -20,10 +20,10 @@ degrees_from levels row some passed s =
     (cases_lt s (length row))
 
 -- a book's rules are lawful on a scale of the book's levels
-pub scale_lawful : (m : Meaning) (b : Book) → m.levels ≡ b.levels → All (Lawful m.levels b.statements) (ledger_of b).rules
-scale_lawful m b levels = subst (λ (k : ℕ). All (Lawful k b.statements) (ledger_of b).rules) (sym levels) (book_lawful b)
+pub scale_lawful : (m : Meaning) (b : Book) → m.levels ≡ b.levels → AllByRecursion (Lawful m.levels b.statements) (ledger_of b).rules
+scale_lawful m b levels = subst (λ (k : ℕ). AllByRecursion (Lawful k b.statements) (ledger_of b).rules) (sym levels) (book_lawful b)
 
 pub ready_rules : (m : Meaning) (n : ℕ) (b : Book) (rows : List Rule) → map clause_of rows ≡ (ledger_of b).rules → m.levels ≡ b.levels → n ≡ b.statements → Rules m n rows
 ready_rules m n b rows is levels statements =
-    let lawful : All (Lawful m.levels n) (ledger_of b).rules = subst (λ (k : ℕ). All (Lawful m.levels k) (ledger_of b).rules) (sym statements) (scale_lawful m b levels) in
-    all_from_map (Lawful m.levels n) clause_of rows (subst (λ (cs : List Clause). All (Lawful m.levels n) cs) (sym is) lawful)
+    let lawful : AllByRecursion (Lawful m.levels n) (ledger_of b).rules = subst (λ (k : ℕ). AllByRecursion (Lawful m.levels k) (ledger_of b).rules) (sym statements) (scale_lawful m b levels) in
+    all_from_map (Lawful m.levels n) clause_of rows (subst (λ (cs : List Clause). AllByRecursion (Lawful m.levels n) cs) (sym is) lawful)

@@ -4,7 +4,7 @@ use Rattle.std.proofs.lemmas.Bool.{false≢true}
 use Rattle.scale.specs.Meaning.{Meaning, Laws}
 use Rattle.book.specs.Ledger.{Clause, Lawful}
 use Rattle.theory.specs.AnswerSet.{AnswerSet}
-use Rattle.theory.specs.Semantics.{All, Setting}
+use Rattle.theory.specs.Semantics.{AllByRecursion, Setting}
 use Rattle.theory.proofs.Raising.{rounds_most}
 use Rattle.theory.proofs.Ranges.{all_within}
 use Rattle.theory.proofs.Reducts.{scene_answers, answers_scene}
@@ -13,7 +13,7 @@ use Rattle.solve.specs.declared.judging.Verdict.{Verdict}
 use Rattle.solve.specs.declared.judging.Verdict.TheVariants.{Scene, Broken, Unsupported}
 use Rattle.solve.proofs.Determined.{judged_once}
 
-module _ {m : Meaning} (laws : Laws m) (n : ℕ) (cs : List Clause) (lawful : All (Lawful m.levels n) cs) (row : List ℕ) (setting : Setting m n row) where
+module _ {m : Meaning} (laws : Laws m) (n : ℕ) (cs : List Clause) (lawful : AllByRecursion (Lawful m.levels n) cs) (row : List ℕ) (setting : Setting m n row) where
   answers : (v : Verdict) → Judged m cs n row v → is_scene v ≡ true → AnswerSet m n cs row
   answers (Scene r) judged e = scene_answers laws n cs (all_within m.levels n cs lawful) row setting (r, judged)
   answers (Broken i d) judged e = absurd (false≢true e)

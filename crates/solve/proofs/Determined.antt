@@ -6,7 +6,7 @@ use Rattle.std.proofs.lemmas.Bool.{both_ways, cases_order}
 use Rattle.scale.specs.Meaning.{Meaning, Laws}
 use Rattle.book.specs.Ledger.{Clause, Lawful}
 use Rattle.theory.specs.Position.{position}
-use Rattle.theory.specs.Semantics.{at, All, Setting, holds, raised, Rounds, SceneAfter}
+use Rattle.theory.specs.Semantics.{at, AllByRecursion, Setting, holds, raised, Rounds, SceneAfter}
 use Rattle.theory.proofs.Least.{scene_holds}
 use Rattle.theory.proofs.Positions.{position_fits, position_apart}
 use Rattle.theory.proofs.Raising.{rounds_unique}
@@ -45,7 +45,7 @@ module _ {m : Meaning} {cs : List Clause} {row : List ℕ} where
           rw (get_or-take i cs k c h) at (All-get_or (HoldsAt m row) (take i cs) k c short b.before)
 
   -- where every rule holds, none is broken
-  broken_apart : {i d : ℕ} → All (HoldsAt m row) cs → FirstBroken m cs row i d → ⊥
+  broken_apart : {i d : ℕ} → AllByRecursion (HoldsAt m row) cs → FirstBroken m cs row i d → ⊥
   broken_apart {i} held b = broken_fails b (λ c. All-get_or (HoldsAt m row) cs i c b.there held)
 
   broken_once : {i j d e : ℕ} → FirstBroken m cs row i d → FirstBroken m cs row j e → Broken i d ≡ Broken j e
@@ -71,7 +71,7 @@ module _ {m : Meaning} {cs : List Clause} {n : ℕ} {row : List ℕ} where
       let same : s ≡ t = first_once (unsupported_first u v.rounds) (unsupported_first v v.rounds) in
       cc
 
-module _ {m : Meaning} (laws : Laws m) (n : ℕ) (cs : List Clause) (lawful : All (Lawful m.levels n) cs) where
+module _ {m : Meaning} (laws : Laws m) (n : ℕ) (cs : List Clause) (lawful : AllByRecursion (Lawful m.levels n) cs) where
   -- a scene breaks no rule
   scene_apart : {row : List ℕ} {r i d : ℕ} → Setting m n row → SceneAfter m cs n row r → FirstBroken m cs row i d → ⊥
   scene_apart setting scene b =

@@ -9,15 +9,15 @@ use Rattle.book.specs.Rows.{clause_of}
 use Rattle.book.specs.declared.rows.Rule.{Rule}
 use Rattle.book.proofs.Reweighing.{blank}
 use Rattle.theory.proofs.Lists.{all_from_map}
-use Rattle.theory.specs.Semantics.{All, at, holds, body_value, head_value, raised, Rounds}
+use Rattle.theory.specs.Semantics.{AllByRecursion, at, holds, body_value, head_value, raised, Rounds}
 use Rattle.solve.specs.Ready.{FirstDifference}
 use Rattle.solve.specs.Verdicts.{HoldsAt, FirstBreach, FirstBroken, FirstUnsupported}
 
 module _ (m : Meaning) (rows : List Rule) (row : List ℕ) where
-  pub all_hold : FirstBreach m rows row None → All (HoldsAt m row) (map clause_of rows)
+  pub all_hold : FirstBreach m rows row None → AllByRecursion (HoldsAt m row) (map clause_of rows)
   all_hold held = All-map (HoldsAt m row) clause_of rows held
 
-  pub breach_refutes : {i : ℕ} → FirstBreach m rows row (Some i) → All (HoldsAt m row) (map clause_of rows) → ⊥
+  pub breach_refutes : {i : ℕ} → FirstBreach m rows row (Some i) → AllByRecursion (HoldsAt m row) (map clause_of rows) → ⊥
   breach_refutes {i} breach held =
       both_ways (holds m (at row) (at row) (clause_of (get_or rows i blank))) (breach.1 blank) (All-get_or (λ r. HoldsAt m row (clause_of r)) rows i blank breach.0 (all_from_map (HoldsAt m row) clause_of rows held))
 
@@ -29,7 +29,7 @@ module _ (m : Meaning) (rows : List Rule) (row : List ℕ) where
         there = let size = length-map rows clause_of in omega (arith, breach.0);
         is = get_or-map clause_of rows i r (clause_of r) breach.0 ∙ ap clause_of (sym read);
         breaks = subst P (sym read) (breach.1 r);
-        before = subst (λ (cs : List Clause). All (HoldsAt m row) cs) (sym (take-map clause_of i rows)) (All-map (HoldsAt m row) clause_of (take i rows) breach.2);
+        before = subst (λ (cs : List Clause). AllByRecursion (HoldsAt m row) cs) (sym (take-map clause_of i rows)) (All-map (HoldsAt m row) clause_of (take i rows) breach.2);
         residuum = residuum;
       }
 

@@ -2,11 +2,11 @@
 use Rattle.std.proofs.Common.{◌≡◌, ℕ, ◌*◌, ◌≤◌, List, sym, subst}
 use Rattle.scale.specs.Meaning.{Meaning, Laws}
 use Rattle.book.specs.Ledger.{Clause, Lawful}
-use Rattle.theory.specs.Semantics.{All}
+use Rattle.theory.specs.Semantics.{AllByRecursion}
 use Rattle.theory.proofs.Theorems.{raising_ascends, raising_stands_still, least_model_stands, scenes_are_answer_sets}
 use Rattle.solve.specs.Raisings.{Raisings}
 
-pub raisings : {m : Meaning} (laws : Laws m) (n : ℕ) (cs : List Clause) → All (Lawful m.levels n) cs → (most : ℕ) → most ≡ n * m.height → Raisings m cs n most
+pub raisings : {m : Meaning} (laws : Laws m) (n : ℕ) (cs : List Clause) → AllByRecursion (Lawful m.levels n) cs → (most : ℕ) → most ≡ n * m.height → Raisings m cs n most
 raisings {m} laws n cs lawful most limit = record {
   limit = limit;
   every = λ upper setting.

@@ -8,7 +8,7 @@ use Rattle.book.specs.Rows.{clause_of}
 use Rattle.book.specs.declared.rows.Rule.{Rule}
 use Rattle.book.specs.declared.rule.Head.{Head}
 use Rattle.book.specs.declared.rule.Head.TheVariants.{Statement, Bound}
-use Rattle.theory.specs.Semantics.{All, head_value, gain}
+use Rattle.theory.specs.Semantics.{AllByRecursion, head_value, gain}
 use Rattle.theory.proofs.Ranges.{Within, Degrees, all_within, gain_degree}
 use Rattle.solve.specs.Ready.{Rules}
 
@@ -40,10 +40,10 @@ module _ (m : Meaning) (n : ℕ) (rows : List Rule) (lawful : Rules m n rows) wh
   pub row_fits : (i : ℕ) (r : Rule) → i < length rows → r ≡ get_or rows i r → fits m.levels (clause_of r) ≡ true
   row_fits i r h e = let P : Rule → Type 0 = λ x. fits m.levels (clause_of x) ≡ true in subst P (sym e) (rule_fits i r h)
 
-  pub rules_lawful : All (Lawful m.levels n) (map clause_of rows)
+  pub rules_lawful : AllByRecursion (Lawful m.levels n) (map clause_of rows)
   rules_lawful = All-map (Lawful m.levels n) clause_of rows lawful
 
-  pub rules_within : All (Within m.levels n) (map clause_of rows)
+  pub rules_within : AllByRecursion (Within m.levels n) (map clause_of rows)
   rules_within = all_within m.levels n (map clause_of rows) rules_lawful
 
 -- the demand of the rows that are left is a degree

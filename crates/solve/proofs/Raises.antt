@@ -3,11 +3,11 @@ use Rattle.std.proofs.Common.{◌≡◌, ℕ, ◌<◌, List, length, sym, ap, �
 use Rattle.std.proofs.lemmas.List.{ext_get_or}
 use Rattle.scale.specs.Meaning.{Meaning, Laws}
 use Rattle.book.specs.Ledger.{Clause}
-use Rattle.theory.specs.Semantics.{All, at, gain, raise}
+use Rattle.theory.specs.Semantics.{AllByRecursion, at, gain, raise}
 use Rattle.theory.proofs.Raising.{raise_setting, at_raise}
 use Rattle.theory.proofs.Ranges.{Within, Degrees}
 
-module _ {m : Meaning} (laws : Laws m) (n : ℕ) (cs : List Clause) (within : All (Within m.levels n) cs) (upper lower : List ℕ) where
+module _ {m : Meaning} (laws : Laws m) (n : ℕ) (cs : List Clause) (within : AllByRecursion (Within m.levels n) cs) (upper lower : List ℕ) where
   pub raise_from_gains : Degrees m (at upper) → Degrees m (at lower) → (next : List ℕ) → length next ≡ n → ((k : ℕ) → k < n → at next k ≡ gain m (at lower) (at upper) cs k) → next ≡ raise m cs n upper lower
   raise_from_gains du dl next size gains =
       let long = (raise_setting laws n cs within upper du lower dl).long in

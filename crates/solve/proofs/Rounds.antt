@@ -5,7 +5,7 @@ use Rattle.std.proofs.lemmas.List.{take-replicate}
 use Rattle.std.proofs.lemmas.Bool.{cases_order}
 use Rattle.scale.specs.Meaning.{Meaning, Laws}
 use Rattle.book.specs.Ledger.{Clause}
-use Rattle.theory.specs.Semantics.{All, at, raise, raised}
+use Rattle.theory.specs.Semantics.{AllByRecursion, at, raise, raised}
 use Rattle.theory.proofs.Ranges.{Within, Degrees}
 use Rattle.theory.proofs.Raising.{stands_still}
 
@@ -24,7 +24,7 @@ module _ (m : Meaning) (cs : List Clause) (n : ℕ) (upper : List ℕ) {lower ne
   pub moves_on : (next ≡ lower → ⊥) → raised m cs n upper (suc r) ≡ raised m cs n upper r → ⊥
   moves_on apart e = apart (one_more ∙ e ∙ sym so_far)
 
-module _ {m : Meaning} (laws : Laws m) (n : ℕ) (cs : List Clause) (within : All (Within m.levels n) cs) (upper : List ℕ) (degrees : Degrees m (at upper)) (r : ℕ) (moving : Moving m cs n upper r) (moves : raised m cs n upper (suc r) ≡ raised m cs n upper r → ⊥) where
+module _ {m : Meaning} (laws : Laws m) (n : ℕ) (cs : List Clause) (within : AllByRecursion (Within m.levels n) cs) (upper : List ℕ) (degrees : Degrees m (at upper)) (r : ℕ) (moving : Moving m cs n upper r) (moves : raised m cs n upper (suc r) ≡ raised m cs n upper r → ⊥) where
   pub moving_below : r < n * m.height
   moving_below =
       let found = stands_still laws n cs within upper degrees in

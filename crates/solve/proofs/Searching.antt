@@ -4,7 +4,7 @@ use Rattle.std.proofs.lemmas.Bool.{cases_lt}
 use Rattle.scale.specs.Meaning.{Meaning, Laws}
 use Rattle.book.specs.Ledger.{Clause, Lawful}
 use Rattle.theory.specs.Position.{position}
-use Rattle.theory.specs.Semantics.{All, Setting, Scene}
+use Rattle.theory.specs.Semantics.{AllByRecursion, Setting, Scene}
 use Rattle.theory.proofs.Positions.{position_apart}
 use Rattle.theory.proofs.Theorems.{scenes_are_answer_sets}
 use Rattle.solve.specs.Searches.{NoSceneBetween, Sought, Found}
@@ -19,7 +19,7 @@ passed_one m cs n start p row setting here none before other there from until sc
     none (subst (λ (r : List ℕ). Scene m cs n r) same scene))
     (cases_lt (position m.levels other) p)
 
-module _ {m : Meaning} (laws : Laws m) (n : ℕ) (cs : List Clause) (lawful : All (Lawful m.levels n) cs) (start : ℕ) (before : List ℕ) where
+module _ {m : Meaning} (laws : Laws m) (n : ℕ) (cs : List Clause) (lawful : AllByRecursion (Lawful m.levels n) cs) (start : ℕ) (before : List ℕ) where
   pub finds : {after : List ℕ} (found : Option (ℕ × ℕ)) → Sought m cs n start before after found → Found m cs n start before after found
   finds found sought = record {
     sought = sought;

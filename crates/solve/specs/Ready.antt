@@ -4,7 +4,7 @@ use Rattle.scale.specs.Meaning.{Meaning}
 use Rattle.book.specs.Ledger.{Lawful}
 use Rattle.book.specs.Rows.{clause_of}
 use Rattle.book.specs.declared.rows.Rule.{Rule}
-use Rattle.theory.specs.Semantics.{at, All}
+use Rattle.theory.specs.Semantics.{at, AllByRecursion}
 
 -- every degree of the row is below a number of levels
 abbrev pub AllBelow : ℕ → List ℕ → Type 0
@@ -16,7 +16,7 @@ Degrees m row = AllBelow m.levels row
 
 -- every rule is lawful on the scale's levels and on n statements
 abbrev pub Rules : Meaning → ℕ → List Rule → Type 0
-Rules m n rules = All (λ r. Lawful m.levels n (clause_of r)) rules
+Rules m n rules = AllByRecursion (λ r. Lawful m.levels n (clause_of r)) rules
 
 -- the first statement at which two rows differ, or that they are the same
 abbrev pub FirstDifference : List ℕ → List ℕ → Option ℕ → Type 0

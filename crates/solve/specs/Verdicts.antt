@@ -7,7 +7,7 @@ use Rattle.scale.specs.Meaning.{Meaning}
 use Rattle.book.specs.Ledger.{Clause, Ledger, every}
 use Rattle.book.specs.Rows.{clause_of}
 use Rattle.book.specs.declared.rows.Rule.{Rule}
-use Rattle.theory.specs.Semantics.{at, All, holds, yield, body_value, head_value, raised, Rounds, SceneAfter}
+use Rattle.theory.specs.Semantics.{at, AllByRecursion, holds, yield, body_value, head_value, raised, Rounds, SceneAfter}
 use Rattle.theory.specs.AnswerSet.{AnswerSet}
 use Rattle.solve.specs.declared.judging.Verdict.{Verdict}
 use Rattle.solve.specs.declared.judging.Verdict.TheVariants.{Scene, Broken, Unsupported}
@@ -40,8 +40,8 @@ HoldsAt m row c = holds m (at row) (at row) c ≡ true
 
 -- the first of some rules that does not hold at a setting, or that all hold
 abbrev pub FirstBreach : Meaning → List Rule → List ℕ → Option ℕ → Type 0
-FirstBreach m rules row None = All (λ r. HoldsAt m row (clause_of r)) rules
-FirstBreach m rules row (Some i) = (i < length rules) × ((d : Rule) → holds m (at row) (at row) (clause_of (slice_index_or rules i d)) ≡ false) × All (λ r. HoldsAt m row (clause_of r)) (take i rules)
+FirstBreach m rules row None = AllByRecursion (λ r. HoldsAt m row (clause_of r)) rules
+FirstBreach m rules row (Some i) = (i < length rules) × ((d : Rule) → holds m (at row) (at row) (clause_of (slice_index_or rules i d)) ≡ false) × AllByRecursion (λ r. HoldsAt m row (clause_of r)) (take i rules)
 
 -- Rule i is the first that does not hold at the setting, and d is the residuum of its body and its head. (`rule` is what
 -- stands at i, by its being there whatever the default.)
@@ -50,12 +50,12 @@ pub record FirstBroken (m : Meaning) (cs : List Clause) (row : List ℕ) (i d : 
   pub there : i < length cs
   pub is : get_or cs i rule ≡ rule
   pub breaks : holds m (at row) (at row) rule ≡ false
-  pub before : All (HoldsAt m row) (take i cs)
+  pub before : AllByRecursion (HoldsAt m row) (take i cs)
   pub residuum : d ≡ m.residuum (body_value m (at row) (at row) rule.body) (head_value (at row) rule.head)
 
 -- Every rule holds, but s is the first statement whose degree in the least model, d, differs from the setting's.
 pub record FirstUnsupported (m : Meaning) (cs : List Clause) (n : ℕ) (row : List ℕ) (s d : ℕ) : Type 0 where
-  pub satisfied : All (HoldsAt m row) cs
+  pub satisfied : AllByRecursion (HoldsAt m row) cs
   pub r : ℕ
   pub rounds : Rounds m cs n row r
   pub there : s < n

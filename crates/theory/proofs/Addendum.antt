@@ -8,7 +8,7 @@ use Rattle.std.proofs.lemmas.List.Sums.{length-filter, count_by-le-length}
 use Rattle.std.proofs.lemmas.Bool.{lt-ltb, and_from, cond_both, cond-true, cond-false, cases_Bool, cases_eq, cases_lt, eqb-false, ne_eqb, not-true, not_from_false}
 use Rattle.scale.specs.Meaning.{Meaning, Laws, top}
 use Rattle.book.specs.Ledger.{Clause, Lawful}
-use Rattle.theory.specs.Semantics.{at, Setting, holds, All, StatementHolds}
+use Rattle.theory.specs.Semantics.{at, Setting, holds, AllByRecursion, StatementHolds}
 use Rattle.theory.specs.AnswerSet.{Under}
 use Rattle.theory.specs.Equivalence.{Pair, fact, facts, differs, differing, link, chain, last_of, cycle, addendum}
 use Rattle.theory.proofs.Order.{zero_degree, top_degree, le_refl, le_top, le_antisym, bottom_le, product_mono, product_top_right}
@@ -16,26 +16,26 @@ use Rattle.theory.proofs.Least.{under_antisym}
 use Rattle.theory.proofs.Lists.{all_append, all_left, all_right, all_to_map, all_from_map, all_to_kept, all_from_kept, all_counting, each_counted}
 
 -- what holds of each fact holds of all
-all_facts : (P : Clause → Type 0) (n : ℕ) (row : List ℕ) → ((s : ℕ) → s < n → P (fact row s)) → All P (facts n row)
+all_facts : (P : Clause → Type 0) (n : ℕ) (row : List ℕ) → ((s : ℕ) → s < n → P (fact row s)) → AllByRecursion P (facts n row)
 all_facts P n row each = all_to_map P (fact row) (range_with_len 0 n) (all_counting _ 0 n (λ s h. each s (omega arith)))
 
 pub length-facts : (n : ℕ) (row : List ℕ) → length (facts n row) ≤ 2 * n
 length-facts n row = omega (arith, length-map-range_with_len (fact row) 0 n)
 
 -- the last of statements below n is below n
-last_below : (n s : ℕ) (ts : List ℕ) → s < n → All (λ t. t < n) ts → last_of s ts < n
+last_below : (n s : ℕ) (ts : List ℕ) → s < n → AllByRecursion (λ t. t < n) ts → last_of s ts < n
 last_below n s [] h all = h
 last_below n s (t ∷ ts) h all = last_below n t ts all.0 all.1
 
 module _ (n : ℕ) (lower upper : List ℕ) where
-  differing_below : All (λ t. t < n) (differing n lower upper)
+  differing_below : AllByRecursion (λ t. t < n) (differing n lower upper)
   differing_below = all_to_kept _ _ (range_with_len 0 n) (all_counting _ 0 n (λ s h _. omega arith))
 
-  differing_differ : All (λ t. at lower t ≡ at upper t → ⊥) (differing n lower upper)
+  differing_differ : AllByRecursion (λ t. at lower t ≡ at upper t → ⊥) (differing n lower upper)
   differing_differ = all_to_kept _ _ (range_with_len 0 n) (all_counting _ 0 n (λ s h t. eqb-false (at lower s) (at upper s) (not-true _ t)))
 
   -- what holds of the statements that differ, and of those that do not, holds of all
-  from_differing : (P : ℕ → Type 0) → All P (differing n lower upper) → ((s : ℕ) → at lower s ≡ at upper s → P s) → (s : ℕ) → s < n → P s
+  from_differing : (P : ℕ → Type 0) → AllByRecursion P (differing n lower upper) → ((s : ℕ) → at lower s ≡ at upper s → P s) → (s : ℕ) → s < n → P s
   from_differing P all same s h =
       elim (cases_eq (at lower s) (at upper s)) [
         | inl e ↦ same s e
@@ -43,15 +43,15 @@ module _ (n : ℕ) (lower upper : List ℕ) where
       ]
 
   -- what holds of every link between statements below n holds of the whole cycle
-  all_chain : (P : Clause → Type 0) → ((s t : ℕ) → s < n → t < n → P (link lower upper s t)) → (s : ℕ) (ts : List ℕ) → s < n → All (λ t. t < n) ts → All P (chain lower upper s ts)
+  all_chain : (P : Clause → Type 0) → ((s t : ℕ) → s < n → t < n → P (link lower upper s t)) → (s : ℕ) (ts : List ℕ) → s < n → AllByRecursion (λ t. t < n) ts → AllByRecursion P (chain lower upper s ts)
   all_chain P each s [] h below = tt
   all_chain P each s (t ∷ ts) h below = (each s t h below.0, all_chain P each t ts below.0 below.1)
 
-  all_cycle : (P : Clause → Type 0) → ((s t : ℕ) → s < n → t < n → P (link lower upper s t)) → (ts : List ℕ) → All (λ t. t < n) ts → All P (cycle lower upper ts)
+  all_cycle : (P : Clause → Type 0) → ((s t : ℕ) → s < n → t < n → P (link lower upper s t)) → (ts : List ℕ) → AllByRecursion (λ t. t < n) ts → AllByRecursion P (cycle lower upper ts)
   all_cycle P each [] below = tt
   all_cycle P each (t ∷ ts) below = all_chain P each (last_of t ts) (t ∷ ts) (last_below n t ts below.0 below.1) below
 
-  all_addendum : (P : Clause → Type 0) → ((s : ℕ) → s < n → P (fact lower s)) → ((s t : ℕ) → s < n → t < n → P (link lower upper s t)) → All P (addendum n lower upper)
+  all_addendum : (P : Clause → Type 0) → ((s : ℕ) → s < n → P (fact lower s)) → ((s t : ℕ) → s < n → t < n → P (link lower upper s t)) → AllByRecursion P (addendum n lower upper)
   all_addendum P of-fact of-link =
       let ts = differing n lower upper in
       all_append P (facts n lower) (cycle lower upper ts) (all_facts P n lower of-fact) (all_cycle P of-link ts differing_below)
@@ -93,14 +93,14 @@ module _ {m : Meaning} (laws : Laws m) where
     fact_holds : (l u : ℕ → ℕ) (s : ℕ) → holds m l u (fact row s) ≡ m.below (at row s) (l s)
     fact_holds l u s = ap (λ x. m.below x (l s)) (product_top_right laws (setting.degrees s))
 
-    pub facts_lawful : All (Lawful m.levels n) (facts n row)
+    pub facts_lawful : AllByRecursion (Lawful m.levels n) (facts n row)
     facts_lawful = all_facts _ n row fact_lawful
 
-    pub facts_hold : (u : ℕ → ℕ) → All (λ c. holds m (at row) u c ≡ true) (facts n row)
+    pub facts_hold : (u : ℕ → ℕ) → AllByRecursion (λ c. holds m (at row) u c ≡ true) (facts n row)
     facts_hold u = all_facts _ n row (λ s _. fact_holds (at row) u s ∙ laws.below_refl (at row s) (setting.degrees s))
 
     -- a setting at which the facts hold is at or over their row
-    pub facts_demand : {other : List ℕ} → Setting m n other → (u : ℕ → ℕ) → All (StatementHolds m (at other) u) (facts n row) → Under m row other
+    pub facts_demand : {other : List ℕ} → Setting m n other → (u : ℕ → ℕ) → AllByRecursion (StatementHolds m (at other) u) (facts n row) → Under m row other
     facts_demand {other} degrees u all =
         let each = each_counted _ 0 n (all_from_map (StatementHolds m (at other) u) (fact row) (range_with_len 0 n) all) in
         under_from setting degrees (λ s h. sym (fact_holds (at other) u s) ∙ each s (omega arith) (omega arith))
@@ -133,7 +133,7 @@ module _ {m : Meaning} (laws : Laws m) where
         let nothing = cond-true _ 0 (at upper t) (laws.below_refl (at lower s) (low.degrees s)) in
         link_holds (at lower) u s t ∙ ap (λ x. m.below x (at lower t)) nothing ∙ laws.bottom_least (at lower t) (low.degrees t)
 
-    pub addendum_lawful : All (Lawful m.levels n) (addendum n lower upper)
+    pub addendum_lawful : AllByRecursion (Lawful m.levels n) (addendum n lower upper)
     addendum_lawful = all_addendum n lower upper _ (fact_lawful low) link_lawful
 
     -- its two rows are a pair of it
@@ -171,7 +171,7 @@ module _ {m : Meaning} (laws : Laws m) where
           ]
 
       -- once the statement before a chain has risen, the whole chain is lifted, its last statement too
-      chain_lifted : (s : ℕ) (ts : List ℕ) → All Differ ts → All (StatementHolds m (at mid) u) (chain lower upper s ts) → Risen s → All Lifted ts × Risen (last_of s ts)
+      chain_lifted : (s : ℕ) (ts : List ℕ) → AllByRecursion Differ ts → AllByRecursion (StatementHolds m (at mid) u) (chain lower upper s ts) → Risen s → AllByRecursion Lifted ts × Risen (last_of s ts)
       chain_lifted s [] differ all risen = (tt, risen)
       chain_lifted s (t ∷ ts) differ all risen =
           let demand = cond-false _ 0 (at upper t) risen in
@@ -180,7 +180,7 @@ module _ {m : Meaning} (laws : Laws m) where
           ((lifted, rest.0), rest.1)
 
       -- if any statement of a chain has risen, its last one has
-      chain_last : (s : ℕ) (ts : List ℕ) → All Differ ts → All (StatementHolds m (at mid) u) (chain lower upper s ts) → All Still ts ⊎ Risen (last_of s ts)
+      chain_last : (s : ℕ) (ts : List ℕ) → AllByRecursion Differ ts → AllByRecursion (StatementHolds m (at mid) u) (chain lower upper s ts) → AllByRecursion Still ts ⊎ Risen (last_of s ts)
       chain_last s [] differ all = inl tt
       chain_last s (t ∷ ts) differ all =
           elim (cases_Bool (m.below (at mid t) (at lower t))) [
@@ -188,7 +188,7 @@ module _ {m : Meaning} (laws : Laws m) where
             | inr risen ↦ inr (chain_lifted t ts differ.1 all.1 risen).1
           ]
 
-      cycle_all_or_none : (ts : List ℕ) → All Differ ts → All (StatementHolds m (at mid) u) (cycle lower upper ts) → All Still ts ⊎ All Lifted ts
+      cycle_all_or_none : (ts : List ℕ) → AllByRecursion Differ ts → AllByRecursion (StatementHolds m (at mid) u) (cycle lower upper ts) → AllByRecursion Still ts ⊎ AllByRecursion Lifted ts
       cycle_all_or_none [] differ all = inl tt
       cycle_all_or_none (t ∷ ts) differ all =
           let last = last_of t ts in

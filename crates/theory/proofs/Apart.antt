@@ -2,16 +2,16 @@
 use Rattle.std.proofs.Common.{◌≡◌, ℕ, true, List, ◌++◌, sym, subst, inl, inr}
 use Rattle.scale.specs.Meaning.{Meaning, Laws}
 use Rattle.book.specs.Ledger.{Clause, Lawful}
-use Rattle.theory.specs.Semantics.{at, Setting, holds, All, StatementHolds}
+use Rattle.theory.specs.Semantics.{at, Setting, holds, AllByRecursion, StatementHolds}
 use Rattle.theory.specs.Equivalence.{Pair, SamePairs, StronglyEquivalent, TellsApart, facts, addendum}
 use Rattle.theory.proofs.Least.{under_antisym}
 use Rattle.theory.proofs.Lists.{all_append, all_left}
 use Rattle.theory.proofs.Pairs.{all_hold_or_not, statements_hold_or_not, pair-append, pair_left, pair_right, pair_with_itself, equilibrium_from_scene, scene_from_equilibrium}
 use Rattle.theory.proofs.Addendum.{facts_lawful, facts_hold, facts_demand, length-facts, addendum_lawful, length-addendum, addendum_pair, addendum_between}
 
-module _ {m : Meaning} (laws : Laws m) (n : ℕ) (first second : List Clause) (lawful-first : All (Lawful m.levels n) first) (lawful-second : All (Lawful m.levels n) second) where
+module _ {m : Meaning} (laws : Laws m) (n : ℕ) (first second : List Clause) (lawful-first : AllByRecursion (Lawful m.levels n) first) (lawful-second : AllByRecursion (Lawful m.levels n) second) where
   -- A setting at which all of the first rules hold and not all of the second: with its facts, it is a scene of the first alone.
-  pub facts_tell_apart : {row : List ℕ} → Setting m n row → All (λ c. holds m (at row) (at row) c ≡ true) first → (All (λ c. holds m (at row) (at row) c ≡ true) second → ⊥) → TellsApart m n first second (facts n row) row
+  pub facts_tell_apart : {row : List ℕ} → Setting m n row → AllByRecursion (λ c. holds m (at row) (at row) c ≡ true) first → (AllByRecursion (λ c. holds m (at row) (at row) c ≡ true) second → ⊥) → TellsApart m n first second (facts n row) row
   facts_tell_apart {row} setting all broken =
       let more = facts n row in
       let lawful = facts_lawful laws setting in
@@ -31,13 +31,13 @@ module _ {m : Meaning} (laws : Laws m) (n : ℕ) (first second : List Clause) (l
 
   -- A pair of the first rules that is none of the second, though all of these hold at its upper row: with the addendum
   -- of its rows, the upper row is a scene of the second alone.
-  pub addendum_tells_apart : {lower upper : List ℕ} → Pair m n first lower upper → All (λ c. holds m (at upper) (at upper) c ≡ true) second → (All (StatementHolds m (at lower) (at upper)) second → ⊥) → TellsApart m n second first (addendum n lower upper) upper
+  pub addendum_tells_apart : {lower upper : List ℕ} → Pair m n first lower upper → AllByRecursion (λ c. holds m (at upper) (at upper) c ≡ true) second → (AllByRecursion (StatementHolds m (at lower) (at upper)) second → ⊥) → TellsApart m n second first (addendum n lower upper) upper
   addendum_tells_apart {lower} {upper} p all broken =
       let more = addendum n lower upper in
       let lawful = addendum_lawful laws p.here p.there in
       let q : Pair m n more lower upper = addendum_pair laws p.here p.there p.under in
       let itself : Pair m n second upper upper = pair_with_itself laws p.there second all in
-      let not_lower : (mid : List ℕ) → Pair m n second mid upper → mid ≡ lower → ⊥ = λ mid r e. broken (subst (λ x. All (StatementHolds m (at x) (at upper)) second) e r.kept) in
+      let not_lower : (mid : List ℕ) → Pair m n second mid upper → mid ≡ lower → ⊥ = λ mid r e. broken (subst (λ x. AllByRecursion (StatementHolds m (at x) (at upper)) second) e r.kept) in
       record {
         lawful = lawful;
         short = length-addendum n lower upper;
@@ -71,7 +71,7 @@ module _ {m : Meaning} (laws : Laws m) (n : ℕ) (first second : List Clause) (l
             absurd (t.none ((same (facts n upper) t.lawful upper t.setting).0 t.scene))
       ]
 
-pub same_pairs : {m : Meaning} (laws : Laws m) (n : ℕ) (first second : List Clause) → All (Lawful m.levels n) first → All (Lawful m.levels n) second → StronglyEquivalent m n first second → SamePairs m n first second
+pub same_pairs : {m : Meaning} (laws : Laws m) (n : ℕ) (first second : List Clause) → AllByRecursion (Lawful m.levels n) first → AllByRecursion (Lawful m.levels n) second → StronglyEquivalent m n first second → SamePairs m n first second
 same_pairs laws n first second lawful-first lawful-second same lower upper = (
   pair_moves laws n first second lawful-first lawful-second same,
   pair_moves laws n second first lawful-second lawful-first (λ more lawful row setting. let both = same more lawful row setting in (both.1, both.0)),

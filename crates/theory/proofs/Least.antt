@@ -2,7 +2,7 @@
 use Rattle.std.proofs.Common.{◌≡◌, ℕ, zero, suc, true, List, sym, ap, ◌∙◌, subst}
 use Rattle.scale.specs.Meaning.{Meaning, Laws}
 use Rattle.book.specs.Ledger.{Clause}
-use Rattle.theory.specs.Semantics.{at, All, Setting, holds, raise, raised, Rounds, BoundHolds, StatementHolds, SceneAfter}
+use Rattle.theory.specs.Semantics.{at, AllByRecursion, Setting, holds, raise, raised, Rounds, BoundHolds, StatementHolds, SceneAfter}
 use Rattle.theory.specs.AnswerSet.{Under, LeastUnder}
 use Rattle.theory.proofs.Order.{Le, le_refl, le_trans, le_antisym, bottom_le}
 use Rattle.theory.proofs.Ranges.{Within, Degrees, all_map, all_both, by_head}
@@ -33,18 +33,18 @@ pub scene_still : {m : Meaning} {cs : List Clause} {n : ℕ} {row : List ℕ} {r
 scene_still {m} {cs} {n} {row} scene = subst (λ (x : List ℕ). raise m cs n row x ≡ x) scene.least scene.rounds.still
 
 -- a setting at which every rule holds is a scene if raising under it ends there
-pub scene_from : {m : Meaning} {cs : List Clause} {n : ℕ} {row : List ℕ} {r : ℕ} → All (λ c. holds m (at row) (at row) c ≡ true) cs → Rounds m cs n row r → raised m cs n row r ≡ row → SceneAfter m cs n row r
+pub scene_from : {m : Meaning} {cs : List Clause} {n : ℕ} {row : List ℕ} {r : ℕ} → AllByRecursion (λ c. holds m (at row) (at row) c ≡ true) cs → Rounds m cs n row r → raised m cs n row r ≡ row → SceneAfter m cs n row r
 scene_from {m} {cs} {row = row} all rounds least = record { rounds = rounds; least = least; bounds = all_map (bound_part m (at row) (at row)) cs all }
 
-module _ {m : Meaning} (laws : Laws m) (n : ℕ) (cs : List Clause) (hs : All (Within m.levels n) cs) where
+module _ {m : Meaning} (laws : Laws m) (n : ℕ) (cs : List Clause) (hs : AllByRecursion (Within m.levels n) cs) where
   -- where a raising leaves a row alone the rules hold
-  pub met_where_still : (upper row : List ℕ) → Degrees m (at upper) → Degrees m (at row) → raise m cs n upper row ≡ row → All (StatementHolds m (at row) (at upper)) cs
+  pub met_where_still : (upper row : List ℕ) → Degrees m (at upper) → Degrees m (at row) → raise m cs n upper row ≡ row → AllByRecursion (StatementHolds m (at row) (at upper)) cs
   met_where_still upper row du dr e =
       met_from_gain laws dr du n cs hs
       (λ s. subst (λ (x : ℕ). Le m x (at row s)) (sym (ap (λ x. at x s) e) ∙ at_raise laws n cs hs upper row s) (le_refl laws (dr s)))
 
   -- raising stays below every setting at which the rules hold
-  pub raised_below : (upper other : List ℕ) → Degrees m (at upper) → Degrees m (at other) → All (StatementHolds m (at other) (at upper)) cs → (r : ℕ) → Rows m (at (raised m cs n upper r)) (at other)
+  pub raised_below : (upper other : List ℕ) → Degrees m (at upper) → Degrees m (at other) → AllByRecursion (StatementHolds m (at other) (at upper)) cs → (r : ℕ) → Rows m (at (raised m cs n upper r)) (at other)
   raised_below upper other du dt met zero = λ s. rw (zeros_at n s) (bottom_le laws (dt s))
   raised_below upper other du dt met (suc r) = λ s.
       rw (at_raise laws n cs hs upper (raised m cs n upper r) s)
@@ -60,6 +60,6 @@ module _ {m : Meaning} (laws : Laws m) (n : ℕ) (cs : List Clause) (hs : All (W
       }
 
   -- every rule holds at a scene
-  pub scene_holds : {row : List ℕ} {r : ℕ} → Setting m n row → SceneAfter m cs n row r → All (λ c. holds m (at row) (at row) c ≡ true) cs
+  pub scene_holds : {row : List ℕ} {r : ℕ} → Setting m n row → SceneAfter m cs n row r → AllByRecursion (λ c. holds m (at row) (at row) c ≡ true) cs
   scene_holds {row} setting scene =
       all_both (both_parts m (at row) (at row)) cs (met_where_still row row setting.degrees setting.degrees (scene_still scene)) scene.bounds

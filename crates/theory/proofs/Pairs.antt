@@ -3,7 +3,7 @@ use Rattle.std.proofs.Common.{◌≡◌, ℕ, suc, true, ◌⊎◌, List, ◌++�
 use Rattle.std.proofs.lemmas.Bool.{cases_Bool, both_ways}
 use Rattle.scale.specs.Meaning.{Meaning, Laws}
 use Rattle.book.specs.Ledger.{Clause, Lawful}
-use Rattle.theory.specs.Semantics.{at, Setting, holds, All, StatementHolds, raised, Scene}
+use Rattle.theory.specs.Semantics.{at, Setting, holds, AllByRecursion, StatementHolds, raised, Scene}
 use Rattle.theory.specs.AnswerSet.{LeastUnder}
 use Rattle.theory.specs.Equivalence.{Pair, Equilibrium, SamePairs, StronglyEquivalent}
 use Rattle.theory.proofs.Ranges.{all_map, all_within, by_head}
@@ -16,10 +16,10 @@ module _ (m : Meaning) (l u : ℕ → ℕ) where
   holds_or_not : (c : Clause) → (holds m l u c ≡ true) ⊎ (holds m l u c ≡ true → ⊥)
   holds_or_not c = elim (cases_Bool (holds m l u c)) [ inl held ↦ inl held | inr broken ↦ inr (both_ways (holds m l u c) broken) ]
 
-  pub all_hold_or_not : (cs : List Clause) → All (λ c. holds m l u c ≡ true) cs ⊎ (All (λ c. holds m l u c ≡ true) cs → ⊥)
+  pub all_hold_or_not : (cs : List Clause) → AllByRecursion (λ c. holds m l u c ≡ true) cs ⊎ (AllByRecursion (λ c. holds m l u c ≡ true) cs → ⊥)
   all_hold_or_not = all_or_not _ holds_or_not
 
-  pub statements_hold_or_not : (cs : List Clause) → All (StatementHolds m l u) cs ⊎ (All (StatementHolds m l u) cs → ⊥)
+  pub statements_hold_or_not : (cs : List Clause) → AllByRecursion (StatementHolds m l u) cs ⊎ (AllByRecursion (StatementHolds m l u) cs → ⊥)
   statements_hold_or_not = all_or_not _ (λ c.
       by_head (λ b. (holds m l u b ≡ true) ⊎ (holds m l u b ≡ true → ⊥) → StatementHolds m l u b ⊎ (StatementHolds m l u b → ⊥)) c
       (λ s d. d) (λ b d. inl tt) (holds_or_not c))
@@ -59,7 +59,7 @@ module _ {m : Meaning} {n : ℕ} {lower upper : List ℕ} where
 
 module _ {m : Meaning} (laws : Laws m) {n : ℕ} {row : List ℕ} (setting : Setting m n row) (cs : List Clause) where
   -- a setting at which all rules hold makes a pair with itself
-  pub pair_with_itself : All (λ c. holds m (at row) (at row) c ≡ true) cs → Pair m n cs row row
+  pub pair_with_itself : AllByRecursion (λ c. holds m (at row) (at row) c ≡ true) cs → Pair m n cs row row
   pair_with_itself all =
       record {
         here = setting;
@@ -69,7 +69,7 @@ module _ {m : Meaning} (laws : Laws m) {n : ℕ} {row : List ℕ} (setting : Set
         kept = all_map (statement_part m (at row) (at row)) cs all;
       }
 
-  module _ (lawful : All (Lawful m.levels n) cs) where
+  module _ (lawful : AllByRecursion (Lawful m.levels n) cs) where
     -- where raising stands still is the least row
     least_row : (r : ℕ) → raised m cs n row (suc r) ≡ raised m cs n row r → LeastUnder m n cs row (raised m cs n row r)
     least_row = least_under laws n cs (all_within m.levels n cs lawful) row setting.degrees
@@ -98,7 +98,7 @@ module _ {m : Meaning} (laws : Laws m) {n : ℕ} {row : List ℕ} (setting : Set
 
 module _ {m : Meaning} (laws : Laws m) (n : ℕ) where
   -- rules with the same pairs: whatever is added, a scene of the first is one of the second
-  scene_moves : (first second more : List Clause) → All (Lawful m.levels n) first → All (Lawful m.levels n) second → All (Lawful m.levels n) more → SamePairs m n first second → (row : List ℕ) → Setting m n row → Scene m (first ++ more) n row → Scene m (second ++ more) n row
+  scene_moves : (first second more : List Clause) → AllByRecursion (Lawful m.levels n) first → AllByRecursion (Lawful m.levels n) second → AllByRecursion (Lawful m.levels n) more → SamePairs m n first second → (row : List ℕ) → Setting m n row → Scene m (first ++ more) n row → Scene m (second ++ more) n row
   scene_moves first second more lawful-first lawful-second lawful same row setting scene =
       let e = equilibrium_from_scene laws setting (first ++ more) (all_append _ first more lawful-first lawful) scene in
       scene_from_equilibrium laws setting (second ++ more) (all_append _ second more lawful-second lawful) (record {
@@ -106,7 +106,7 @@ module _ {m : Meaning} (laws : Laws m) (n : ℕ) where
         alone = λ lower p. e.alone lower (pair-append ((same lower row).1 (pair_left second more p)) (pair_right second more p));
       })
 
-  pub strongly_equivalent : (first second : List Clause) → All (Lawful m.levels n) first → All (Lawful m.levels n) second → SamePairs m n first second → StronglyEquivalent m n first second
+  pub strongly_equivalent : (first second : List Clause) → AllByRecursion (Lawful m.levels n) first → AllByRecursion (Lawful m.levels n) second → SamePairs m n first second → StronglyEquivalent m n first second
   strongly_equivalent first second lawful-first lawful-second same more lawful row setting = (
     scene_moves first second more lawful-first lawful-second lawful same row setting,
     scene_moves second first more lawful-second lawful-first lawful (λ lower upper. ((same lower upper).1, (same lower upper).0)) row setting,

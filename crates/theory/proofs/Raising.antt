@@ -4,7 +4,7 @@ use Rattle.std.proofs.lemmas.List.{ext_get_or, get_or_past, length-replicate}
 use Rattle.std.proofs.lemmas.Bool.{cases_eq, cases_lt, cases_order}
 use Rattle.scale.specs.Meaning.{Meaning, Laws}
 use Rattle.book.specs.Ledger.{Clause}
-use Rattle.theory.specs.Semantics.{at, All, Setting, gain, counting, raise, raised, Rounds}
+use Rattle.theory.specs.Semantics.{at, AllByRecursion, Setting, gain, counting, raise, raised, Rounds}
 use Rattle.theory.proofs.Order.{zero_degree, bottom_le, le_refl}
 use Rattle.theory.proofs.Ranges.{Within, Degrees, gain_degree, gain_past}
 use Rattle.theory.proofs.Values.{Rows, gain_mono}
@@ -78,7 +78,7 @@ module _ {m : Meaning} (laws : Laws m) where
   pub zeros_setting : (n : ℕ) → Setting m n (replicate n 0)
   zeros_setting n = record { long = length-replicate n 0; degrees = λ s. rw (zeros_at n s) (zero_degree laws) }
 
-  module _ (n : ℕ) (cs : List Clause) (hs : All (Within m.levels n) cs) where
+  module _ (n : ℕ) (cs : List Clause) (hs : AllByRecursion (Within m.levels n) cs) where
     -- a raised row gives each statement what the rules want of it
     pub at_raise : (upper lower : List ℕ) (s : ℕ) → at (raise m cs n upper lower) s ≡ gain m (at lower) (at upper) cs s
     at_raise upper lower s = go (cases_lt s n)

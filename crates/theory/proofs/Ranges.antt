@@ -7,7 +7,7 @@ use Rattle.book.specs.declared.rule.Head.{Head}
 use Rattle.book.specs.declared.rule.Head.TheVariants.{Statement, Bound}
 use Rattle.book.specs.declared.rule.Literal.{Literal}
 use Rattle.book.specs.declared.rule.Literal.TheVariants.{Plain, Above, Lacking}
-use Rattle.theory.specs.Semantics.{All, value, body_value, yield, share, gain}
+use Rattle.theory.specs.Semantics.{AllByRecursion, value, body_value, yield, share, gain}
 use Rattle.theory.proofs.Order.{zero_degree, top_degree, join_zero_left}
 
 abbrev pub HeadWithin : ℕ → ℕ → Head → Type 0
@@ -23,18 +23,18 @@ LiteralWithin levels statements (Lacking s) = s < statements
 pub record Within (levels statements : ℕ) (c : Clause) : Type 0 where
   pub head_within : HeadWithin levels statements c.head
   pub weight_within : c.weight < levels
-  pub body_within : All (LiteralWithin levels statements) c.body
+  pub body_within : AllByRecursion (LiteralWithin levels statements) c.body
 
 -- a row of degrees, read as a function
 abbrev pub Degrees : Meaning → (ℕ → ℕ) → Type 0
 Degrees m l = (s : ℕ) → l s < m.levels
 
 -- what holds of every element goes over by what holds of each
-pub all_map : {A : Type 0} {P Q : A → Type 0} → ((x : A) → P x → Q x) → (xs : List A) → All P xs → All Q xs
+pub all_map : {A : Type 0} {P Q : A → Type 0} → ((x : A) → P x → Q x) → (xs : List A) → AllByRecursion P xs → AllByRecursion Q xs
 all_map f [] h = tt
 all_map f (x ∷ xs) h = (f x h.0, all_map f xs h.1)
 
-pub all_both : {A : Type 0} {P Q R : A → Type 0} → ((x : A) → P x → Q x → R x) → (xs : List A) → All P xs → All Q xs → All R xs
+pub all_both : {A : Type 0} {P Q R : A → Type 0} → ((x : A) → P x → Q x → R x) → (xs : List A) → AllByRecursion P xs → AllByRecursion Q xs → AllByRecursion R xs
 all_both f [] h k = tt
 all_both f (x ∷ xs) h k = (f x h.0 k.0, all_both f xs h.1 k.1)
 
@@ -46,7 +46,7 @@ headed h c = record { head = h; weight = c.weight; body = c.body }
 pub by_head : (P : Clause → Type 0) (c : Clause) → ((s : ℕ) → P (headed (Statement s) c)) → ((d : ℕ) → P (headed (Bound d) c)) → P c
 by_head P c f g = elim c.head as (λ h. P (headed h c)) [ Statement s ↦ f s | Bound d ↦ g d ]
 
-every_all : {A : Type 0} (f : A → Bool) (xs : List A) → every f xs ≡ true → All (λ x. f x ≡ true) xs
+every_all : {A : Type 0} (f : A → Bool) (xs : List A) → every f xs ≡ true → AllByRecursion (λ x. f x ≡ true) xs
 every_all f [] e = tt
 every_all f (x ∷ xs) e = let p = and_parts (f x) (every f xs) e in (p.0, every_all f xs p.1)
 
@@ -71,7 +71,7 @@ within {levels} {statements} {c} lawful =
           all_both (literal_within_from levels statements) c.body (every_all (literal_known statements) c.body k.1) (every_all (literal_fits levels) c.body g.1);
     }
 
-pub all_within : (levels statements : ℕ) (cs : List Clause) → All (Lawful levels statements) cs → All (Within levels statements) cs
+pub all_within : (levels statements : ℕ) (cs : List Clause) → AllByRecursion (Lawful levels statements) cs → AllByRecursion (Within levels statements) cs
 all_within levels statements cs h = all_map (λ c. within {c = c}) cs h
 
 module _ {m : Meaning} (laws : Laws m) where
@@ -95,7 +95,7 @@ module _ {m : Meaning} (laws : Laws m) where
       (λ d w. zero_degree laws)
       h
 
-  pub gain_degree : (n : ℕ) {l u : ℕ → ℕ} → Degrees m l → Degrees m u → (cs : List Clause) → All (Within m.levels n) cs → (s : ℕ) → gain m l u cs s < m.levels
+  pub gain_degree : (n : ℕ) {l u : ℕ → ℕ} → Degrees m l → Degrees m u → (cs : List Clause) → AllByRecursion (Within m.levels n) cs → (s : ℕ) → gain m l u cs s < m.levels
   gain_degree n dl du [] hs s = zero_degree laws
   gain_degree n {l} {u} dl du (c ∷ cs) hs s =
       laws.join_degree (share m l u c s) (gain m l u cs s) (share_degree dl du c hs.0.weight_within s) (gain_degree n dl du cs hs.1 s)
@@ -108,7 +108,7 @@ module _ {m : Meaning} (laws : Laws m) where
       (λ d w. refl)
       h.head_within
 
-  pub gain_past : (l u : ℕ → ℕ) (n : ℕ) (cs : List Clause) → All (Within m.levels n) cs → (s : ℕ) → n ≤ s → gain m l u cs s ≡ 0
+  pub gain_past : (l u : ℕ → ℕ) (n : ℕ) (cs : List Clause) → AllByRecursion (Within m.levels n) cs → (s : ℕ) → n ≤ s → gain m l u cs s ≡ 0
   gain_past l u n [] hs s past = refl
   gain_past l u n (c ∷ cs) hs s past =
       ap₂ m.join (share_past l u c hs.0 s past) (gain_past l u n cs hs.1 s past) ∙ join_zero_left laws (zero_degree laws)

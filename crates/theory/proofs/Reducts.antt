@@ -4,7 +4,7 @@ use Rattle.scale.specs.Meaning.{Meaning, Laws}
 use Rattle.book.specs.Ledger.{Clause}
 use Rattle.book.specs.declared.rule.Literal.{Literal}
 use Rattle.book.specs.declared.rule.Literal.TheVariants.{Plain, Above, Lacking}
-use Rattle.theory.specs.Semantics.{at, All, Setting, body_value, yield, head_value, holds, raised, Scene, BoundHolds}
+use Rattle.theory.specs.Semantics.{at, AllByRecursion, Setting, body_value, yield, head_value, holds, raised, Scene, BoundHolds}
 use Rattle.theory.specs.AnswerSet.{positive, weighed, reduct, Under, AnswerSet}
 use Rattle.theory.proofs.Order.{Le, le_refl, le_trans, product_left_comm}
 use Rattle.theory.proofs.Ranges.{Within, HeadWithin, Degrees, all_map, all_both, by_head, value_degree, body_degree}
@@ -44,11 +44,11 @@ module _ {m : Meaning} (laws : Laws m) where
     pub reduct_holds : (c : Clause) → c.weight < m.levels → holds m l v (reduct m u c) ≡ holds m l u c
     reduct_holds c h = ap (λ y. m.below y (head_value l c.head)) (reduct_yield c h)
 
-    pub to_reduct : (n : ℕ) (cs : List Clause) → All (Within m.levels n) cs → All (λ c. holds m l u c ≡ true) cs → All (λ c. holds m l v c ≡ true) (map (reduct m u) cs)
+    pub to_reduct : (n : ℕ) (cs : List Clause) → AllByRecursion (Within m.levels n) cs → AllByRecursion (λ c. holds m l u c ≡ true) cs → AllByRecursion (λ c. holds m l v c ≡ true) (map (reduct m u) cs)
     to_reduct n [] hs h = tt
     to_reduct n (c ∷ cs) hs h = (reduct_holds c hs.0.weight_within ∙ h.0, to_reduct n cs hs.1 h.1)
 
-    pub from_reduct : (n : ℕ) (cs : List Clause) → All (Within m.levels n) cs → All (λ c. holds m l v c ≡ true) (map (reduct m u) cs) → All (λ c. holds m l u c ≡ true) cs
+    pub from_reduct : (n : ℕ) (cs : List Clause) → AllByRecursion (Within m.levels n) cs → AllByRecursion (λ c. holds m l v c ≡ true) (map (reduct m u) cs) → AllByRecursion (λ c. holds m l u c ≡ true) cs
     from_reduct n [] hs h = tt
     from_reduct n (c ∷ cs) hs h = (sym (reduct_holds c hs.0.weight_within) ∙ h.0, from_reduct n cs hs.1 h.1)
 
@@ -62,7 +62,7 @@ module _ {m : Meaning} (laws : Laws m) where
       (yield_mono laws lower (λ s. le_refl laws (du s)) n c h)
       held
 
-  module _ (n : ℕ) (cs : List Clause) (hs : All (Within m.levels n) cs) (row : List ℕ) (setting : Setting m n row) where
+  module _ (n : ℕ) (cs : List Clause) (hs : AllByRecursion (Within m.levels n) cs) (row : List ℕ) (setting : Setting m n row) where
     degrees : Degrees m (at row)
     degrees = setting.degrees
 

@@ -6,7 +6,7 @@ use Rattle.scale.specs.Meaning.{Meaning, Laws, top}
 use Rattle.book.specs.Ledger.{Clause}
 use Rattle.book.specs.declared.rule.Literal.{Literal}
 use Rattle.book.specs.declared.rule.Literal.TheVariants.{Plain, Above, Lacking}
-use Rattle.theory.specs.Semantics.{All, value, body_value, yield, share, gain, StatementHolds}
+use Rattle.theory.specs.Semantics.{AllByRecursion, value, body_value, yield, share, gain, StatementHolds}
 use Rattle.theory.proofs.Order.{Le, zero_degree, top_degree, le_refl, le_trans, bottom_le, join_upper_left, join_upper_right, join_lub, join_mono, product_mono, lack_anti}
 use Rattle.theory.proofs.Ranges.{Within, LiteralWithin, Degrees, by_head, yield_degree, share_degree, gain_degree}
 
@@ -31,7 +31,7 @@ module _ {m : Meaning} (laws : Laws m) where
     value_mono (Above s d) h = above_mono (lower s) h.1
     value_mono (Lacking s) h = lack_anti laws (upper s)
 
-    pub body_mono : (xs : List Literal) → All (LiteralWithin m.levels n) xs → Le m (body_value m l u xs) (body_value m k v xs)
+    pub body_mono : (xs : List Literal) → AllByRecursion (LiteralWithin m.levels n) xs → Le m (body_value m l u xs) (body_value m k v xs)
     body_mono [] h = le_refl laws (top_degree laws)
     body_mono (x ∷ xs) h = product_mono laws (value_mono x h.0) (body_mono xs h.1)
 
@@ -45,7 +45,7 @@ module _ {m : Meaning} (laws : Laws m) where
         (λ d y. le_refl laws (zero_degree laws))
         (yield_mono c h)
 
-    pub gain_mono : (cs : List Clause) → All (Within m.levels n) cs → (s : ℕ) → Le m (gain m l u cs s) (gain m k v cs s)
+    pub gain_mono : (cs : List Clause) → AllByRecursion (Within m.levels n) cs → (s : ℕ) → Le m (gain m l u cs s) (gain m k v cs s)
     gain_mono [] hs s = le_refl laws (zero_degree laws)
     gain_mono (c ∷ cs) hs s = join_mono laws (share_mono c hs.0 s) (gain_mono cs hs.1 s)
 
@@ -70,11 +70,11 @@ module _ {m : Meaning} (laws : Laws m) where
         h
 
     -- the rules with statements for their heads hold exactly where no statement is to gain
-    pub gain_met : (n : ℕ) (cs : List Clause) → All (Within m.levels n) cs → All (StatementHolds m l u) cs → Rows m (gain m l u cs) l
+    pub gain_met : (n : ℕ) (cs : List Clause) → AllByRecursion (Within m.levels n) cs → AllByRecursion (StatementHolds m l u) cs → Rows m (gain m l u cs) l
     gain_met n [] hs met s = bottom_le laws (dl s)
     gain_met n (c ∷ cs) hs met s = join_lub laws (share_met c hs.0.weight_within met.0 s) (gain_met n cs hs.1 met.1 s)
 
-    pub met_from_gain : (n : ℕ) (cs : List Clause) → All (Within m.levels n) cs → Rows m (gain m l u cs) l → All (StatementHolds m l u) cs
+    pub met_from_gain : (n : ℕ) (cs : List Clause) → AllByRecursion (Within m.levels n) cs → Rows m (gain m l u cs) l → AllByRecursion (StatementHolds m l u) cs
     met_from_gain n [] hs h = tt
     met_from_gain n (c ∷ cs) hs h =
         let here = share_degree laws dl du c hs.0.weight_within in

@@ -4,7 +4,7 @@ use Rattle.scale.specs.Meaning.{Meaning}
 use Rattle.book.specs.Ledger.{Clause}
 use Rattle.book.specs.declared.rule.Literal.{Literal}
 use Rattle.book.specs.declared.rule.Literal.TheVariants.{Plain, Above, Lacking}
-use Rattle.theory.specs.Semantics.{at, Setting, holds, All, StatementHolds}
+use Rattle.theory.specs.Semantics.{at, Setting, holds, AllByRecursion, StatementHolds}
 
 -- the literals of a body that are not lackings
 abbrev pub positive : List Literal → List Literal
@@ -27,7 +27,7 @@ reduct m u c = record { head = c.head; weight = weighed m u c.weight c.body; bod
 -- a setting is a model of rules when every one of them holds there
 pub record Model (m : Meaning) (n : ℕ) (cs : List Clause) (row : List ℕ) : Type 0 where
   pub setting : Setting m n row
-  pub satisfied : All (λ c. holds m (at row) (at row) c ≡ true) cs
+  pub satisfied : AllByRecursion (λ c. holds m (at row) (at row) c ≡ true) cs
 
 -- one setting is below another, statement by statement
 abbrev pub Under : Meaning → List ℕ → List ℕ → Type 0
@@ -46,5 +46,5 @@ pub record AnswerSet (m : Meaning) (n : ℕ) (cs : List Clause) (row : List ℕ)
 -- the least setting at which, under an upper one, every rule with a statement for its head holds
 pub record LeastUnder (m : Meaning) (n : ℕ) (cs : List Clause) (upper row : List ℕ) : Type 0 where
   pub setting : Setting m n row
-  pub satisfied : All (StatementHolds m (at row) (at upper)) cs
-  pub least : (other : List ℕ) → Setting m n other → All (StatementHolds m (at other) (at upper)) cs → Under m row other
+  pub satisfied : AllByRecursion (StatementHolds m (at row) (at upper)) cs
+  pub least : (other : List ℕ) → Setting m n other → AllByRecursion (StatementHolds m (at other) (at upper)) cs → Under m row other

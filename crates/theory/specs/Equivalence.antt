@@ -5,7 +5,7 @@ use Rattle.scale.specs.Meaning.{Meaning}
 use Rattle.book.specs.Ledger.{Clause, Lawful}
 use Rattle.book.specs.declared.rule.Head.TheVariants.{Statement}
 use Rattle.book.specs.declared.rule.Literal.TheVariants.{Above}
-use Rattle.theory.specs.Semantics.{at, Setting, holds, All, StatementHolds, Scene}
+use Rattle.theory.specs.Semantics.{at, Setting, holds, AllByRecursion, StatementHolds, Scene}
 use Rattle.theory.specs.AnswerSet.{Under}
 
 -- A here-and-there pair of rules: there, at `upper`, all of them hold; here, at `lower` with the lacks read at `upper`,
@@ -14,8 +14,8 @@ pub record Pair (m : Meaning) (n : ℕ) (cs : List Clause) (lower upper : List �
   pub here : Setting m n lower
   pub there : Setting m n upper
   pub under : Under m lower upper
-  pub satisfied : All (λ c. holds m (at upper) (at upper) c ≡ true) cs
-  pub kept : All (StatementHolds m (at lower) (at upper)) cs
+  pub satisfied : AllByRecursion (λ c. holds m (at upper) (at upper) c ≡ true) cs
+  pub kept : AllByRecursion (StatementHolds m (at lower) (at upper)) cs
 
 -- An equilibrium: a pair with itself, and with nothing else below it.
 pub record Equilibrium (m : Meaning) (n : ℕ) (cs : List Clause) (row : List ℕ) : Type 0 where
@@ -29,12 +29,12 @@ SamePairs m n first second = (lower upper : List ℕ) → Pair m n first lower u
 -- whichever lawful rules are added to both, both have the same scenes
 abbrev pub StronglyEquivalent : Meaning → ℕ → List Clause → List Clause → Type 0
 StronglyEquivalent m n first second =
-    (more : List Clause) → All (Lawful m.levels n) more → (row : List ℕ) → Setting m n row →
+    (more : List Clause) → AllByRecursion (Lawful m.levels n) more → (row : List ℕ) → Setting m n row →
     Scene m (first ++ more) n row ↔ Scene m (second ++ more) n row
 
 -- with `more` added, `row` is a scene of the first rules and not of the second
 pub record TellsApart (m : Meaning) (n : ℕ) (first second more : List Clause) (row : List ℕ) : Type 0 where
-  pub lawful : All (Lawful m.levels n) more
+  pub lawful : AllByRecursion (Lawful m.levels n) more
   pub short : length more ≤ 2 * n
   pub setting : Setting m n row
   pub scene : Scene m (first ++ more) n row

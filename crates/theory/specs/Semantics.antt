@@ -1,6 +1,6 @@
 -- What rules mean on a scale: values, yields, raisings, rounds, least models and scenes.
 use Rattle.std.specs.Prelude.{◌≡◌, ℕ, zero, suc, ◌<◌, Bool, true, cond, List, [], ◌∷◌, map, length, replicate, ◌==◌, ◌≢◌, slice_index}
-pub use Rattle.std.specs.List.{AllByRecursion as All}
+pub use Rattle.std.specs.List.{AllByRecursion}
 use Rattle.scale.specs.Meaning.{Meaning, top}
 use Rattle.book.specs.Ledger.{Clause}
 use Rattle.book.specs.declared.rule.Head.{Head}
@@ -80,7 +80,7 @@ StatementHolds m l u c = elim c.head [ Statement s ↦ holds m l u c ≡ true | 
 pub record SceneAfter (m : Meaning) (cs : List Clause) (n : ℕ) (row : List ℕ) (r : ℕ) : Type 0 where
   pub rounds : Rounds m cs n row r
   pub least : raised m cs n row r ≡ row
-  pub bounds : All (BoundHolds m (at row) (at row)) cs
+  pub bounds : AllByRecursion (BoundHolds m (at row) (at row)) cs
 
 abbrev pub Scene : Meaning → List Clause → ℕ → List ℕ → Type 0
 Scene m cs n row = (r : ℕ) × SceneAfter m cs n row r

@@ -5,7 +5,7 @@ use Rattle.scale.proofs.Grants.{grants}
 use Rattle.book.specs.Ledger.{Clause, Lawful}
 use Rattle.book.specs.Rows.{clause_of}
 use Rattle.book.specs.View.{ledger_of}
-use Rattle.theory.specs.Semantics.{All}
+use Rattle.theory.specs.Semantics.{AllByRecursion}
 use Rattle.solve.proofs.Books.{ready_rules, scale_lawful}
 use Rattle.engine.specs.Comparisons.{compare_refusal, places, Told, Compared}
 use Rattle.engine.proofs.Telling.{compared}
@@ -47,7 +47,7 @@ returns g c =
     let few : ltb 4096 (first.levels ^ first.statements) ≡ false = le-ltb _ _ (subst (λ (k : ℕ). k ≤ 4096) count c.in-Some.ensures.1) in
     let none : compare_refusal m (ledger_of first) (ledger_of second) addendum setting ≡ None = rw (alike, alike-too, wide, long, room, few) refl in
     let laws : Laws m = g.met.S.Scale.lawful c.args.scale.now (omega (arith, levels, first.least)) in
-    let two : All (Lawful m.levels first.statements) (ledger_of second).rules = subst (λ (k : ℕ). All (Lawful m.levels k) (ledger_of second).rules) (sym both) (scale_lawful m second levels-too) in
+    let two : AllByRecursion (Lawful m.levels first.statements) (ledger_of second).rules = subst (λ (k : ℕ). AllByRecursion (Lawful m.levels k) (ledger_of second).rules) (sym both) (scale_lawful m second levels-too) in
     let before = places addendum setting in
     let after = places c.tell.new.addendum c.tell.new.setting in
     let told = subst₂ (λ (p q : List Clause). Told m first.statements p q before after c.tell.result) c.rules.ensures c.rules-2.ensures (subst (λ (n : ℕ). Told m n (map clause_of c.rules.result.now) (map clause_of c.rules-2.result.now) before after c.tell.result) size c.tell.ensures) in

@@ -3,7 +3,7 @@ use Rattle.std.proofs.ByRecursion.{All-more}
 use Rattle.std.proofs.lemmas.List.{take_all, get_or_read}
 use Rattle.book.specs.Rows.{clause_of}
 use Rattle.book.specs.declared.rows.Rule.{Rule}
-use Rattle.theory.specs.Semantics.{All, at, holds}
+use Rattle.theory.specs.Semantics.{AllByRecursion, at, holds}
 use Rattle.solve.specs.Verdicts.{HoldsAt}
 use Rattle.solve.proofs.Parts.{row_fits}
 use Rattle.solve.proofs.judging.first_broken.Goals as goal
@@ -31,4 +31,4 @@ loop-i-preserved g c =
 pub returns : goal.returns
 returns g c =
     let P : Rule → Type 0 = λ r. HoldsAt (g.S.Scale.meaning c.args.scale.now) c.args.row.now (clause_of r) in
-    subst (λ (rows : List Rule). All P rows) (take_all c.loop-i.i c.args.rules.now c.loop-i-test.false) c.loop-i.invariant
+    subst (λ (rows : List Rule). AllByRecursion P rows) (take_all c.loop-i.i c.args.rules.now c.loop-i-test.false) c.loop-i.invariant
