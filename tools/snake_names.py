@@ -1,5 +1,6 @@
 #!/usr/bin/env python3
-"""Brings the names of the repository's own definitions and lemmas to snake case, and those of types to camel case.
+"""Brings the names of the repository's own definitions and lemmas to snake case, and those of types to camel case; calls
+the older words of lists by the names that the library has for them; and names the bound in clauses of generic functions.
 
 usage: python3 tools/snake_names.py      at the top of a tree that the kit's port.py has turned
 
@@ -12,6 +13,7 @@ import glob
 import re
 
 WORDS = {"length", "append"}
+OLDER = {"All": "AllByRecursion", "Has": "ContainsAt"}
 SIGNATURE = re.compile(r"^\s*((?:abbrev |unfoldable |pub |record |data |infixl |infixr )*)([^\s(){}:=|,;]+)((?:\s+[({].*?[)}])*)\s+:\s+(.*)$")
 MADE = re.compile(r"\bgoal\.(\S+)$")
 TOKEN = re.compile(r"[\w'·⊑◌-]+")
@@ -41,6 +43,21 @@ def joined(name, names):
     return "-" not in right and (left in WORDS and right in names or left in names and right in WORDS)
 
 
+def respelled(path, text):
+    """The text with the older words under their new names and `meaning` under its bound, outside comments."""
+    lines = text.split("\n")
+    for k, line in enumerate(lines):
+        if line.lstrip().startswith(("--", "//")):
+            continue
+        for old, new in OLDER.items():
+            line = line.replace(f"{new} as {old}", new)
+            line = re.sub(rf"(?<![\w'.-]){old}(?![\w'-])", new, line)
+        if path.endswith(".rt") and "crates/scale/" not in path and re.search("ensures|requires", line):
+            line = re.sub(r"(?<![\w.])meaning\b", "S.meaning", line)
+        lines[k] = line
+    return "\n".join(lines)
+
+
 def main():
     proofs = [p for p in glob.glob("crates/**/*.antt", recursive=True) if "/out/" not in p]
     sources = [p for p in glob.glob("crates/*/src/*.rt")]
@@ -65,7 +82,7 @@ def main():
             print(f"look: {name} becomes {new}, which stands beside it in {sorted(shared)[:3]}")
     pattern = re.compile(r"(?<![\w'-])(" + "|".join(re.escape(n) for n in sorted(turned, key=len, reverse=True)) + r")(?![\w'-])")
     for path, text in texts.items():
-        new = pattern.sub(lambda m: turned[m.group(1)], text)
+        new = respelled(path, pattern.sub(lambda m: turned[m.group(1)], text) if turned else text)
         if new != text:
             open(path, "w", encoding="utf-8").write(new)
     print(f"{len(turned)} names turned")
