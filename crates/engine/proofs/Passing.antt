@@ -1,13 +1,13 @@
 -- Going through all settings in the order of their positions.
-use Rattle.std.proofs.Common.{◌≡◌, ℕ, ◌+◌, ◌^◌, ◌<◌, ◌≤◌, List, length, sym, ap, ◌∙◌, subst, ⊎_elim, arith}
+use Rattle.std.proofs.Common.{◌≡◌, ℕ, ◌+◌, ◌^◌, ◌<◌, ◌≤◌, ◌↔◌, List, length, sym, ap, ◌∙◌, subst, ⊎_elim, arith}
 use Rattle.std.proofs.lemmas.Bool.{cases_lt}
 use Rattle.scale.specs.Meaning.{Meaning}
 use Rattle.book.specs.Ledger.{Clause}
-use Rattle.theory.specs.Equivalence.{SamePairs}
+use Rattle.theory.specs.Equivalence.{Pair, SamePairs}
 use Rattle.theory.specs.Position.{position}
 use Rattle.theory.specs.Semantics.{at, Setting}
 use Rattle.theory.proofs.Positions.{position_apart, position_fits}
-use Rattle.engine.specs.Differences.{Advanced, Agree}
+use Rattle.engine.specs.Differences.{Advanced, Holds, AgreeBelow, Agree}
 
 -- every setting before position p has the property
 abbrev pub Passed : Meaning → ℕ → ℕ → (List ℕ → Type 0) → Type 0
@@ -19,6 +19,9 @@ pub record At (m : Meaning) (count k : ℕ) (row : List ℕ) : Type 0 where
   pub outside : count ≤ k → position m.levels row ≡ 0
 
 module _ (m : Meaning) (n k : ℕ) (T : List ℕ → Type 0) where
+  pub passed_none : Passed m n 0 T
+  passed_none row setting h = absurd (omega (arith, h))
+
   pub passed_more : (row : List ℕ) → Setting m n row → position m.levels row ≡ k → T row → Passed m n k T → Passed m n (k + 1) T
   passed_more row setting here holds before other there until =
       ⊎_elim (before other there)
@@ -31,6 +34,9 @@ module _ (m : Meaning) (n k : ℕ) (T : List ℕ → Type 0) where
   passed_all all passed row setting =
       let fits = subst (λ (j : ℕ). position m.levels row < m.levels ^ j) setting.long (position_fits m.levels row setting.degrees) in
       passed row setting (omega arith)
+
+pub at_start : (m : Meaning) (count : ℕ) (row : List ℕ) → position m.levels row ≡ 0 → At m count 0 row
+at_start m count row here = record { inside = λ h. here; outside = λ h. here }
 
 pub at_next : (m : Meaning) (count k : ℕ) (row next : List ℕ) → count ≡ m.levels ^ length row → k < count → At m count k row → Advanced m.levels row next → At m count (k + 1) next
 at_next m count k row next is h here step =

@@ -128,4 +128,4 @@ empties one two = ledgers (empty one.0 one.1) (empty two.0 two.1)
 abbrev pub Ran : Meaning → ℕ × ℕ → ℕ × ℕ → List Call → Ledgers → Ledgers → Result (Vec Outcome Global) RunError → Type 0
 Ran m one two calls before end (Ok outcomes) = (sizes_refusal one two ≡ None) × OutcomesOf m (empties one two) calls (vec_items outcomes) × (end ≡ after_all calls (empties one two))
 Ran m one two calls before end (Err (Refused e)) = (sizes_refusal one two ≡ Some e) × (end ≡ before)
-Ran m one two calls before end (Err NoMemory) = (sizes_refusal one two ≡ None) × (end ≡ before)
+Ran m one two calls before end (Err NoMemory) = end ≡ before

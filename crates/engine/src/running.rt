@@ -1,5 +1,6 @@
 // Runs of calls on two books.
-ghost use Rattle.std.specs.Prelude.{◌≡◌, ◌≤◌, [], None, vec_len, vec_capacity};
+ghost use Rattle.std.specs.Prelude.{◌≡◌, ◌≤◌, [], vec_len, vec_capacity};
+ghost use Rattle.scale.specs.Causes.{answered, left};
 ghost use Rattle.engine.specs.Runs.{ledgers_of, after_all, OutcomesOf, sizes_refusal, empties, Ran};
 
 use super::calls::{Call, Outcome, RunError};
@@ -8,23 +9,24 @@ use book::{Book, size_refusal};
 use scale::{Refusal, Scale};
 use std::alloc::Global;
 
-// Why one of two books cannot be made; the first book's cause comes first.
-fn sizes_refusal(first_size: (u8, u8), second_size: (u8, u8)) -> Option<Refusal>
-    ensures { result ≡ sizes_refusal first_size second_size }
+// Makes both books, or neither.
+fn make_both(
+    first: &mut Book,
+    second: &mut Book,
+    first_size: (u8, u8),
+    second_size: (u8, u8),
+) -> Result<(), Refusal>
+    ensures answer { result ≡ answered (sizes_refusal first_size second_size) tt }
+    ensures changes { ledgers_of first.new second.new ≡ left (sizes_refusal first_size second_size) (empties first_size second_size) (ledgers_of first.old second.old) }
 {
-    match size_refusal(first_size.0, first_size.1) {
-        Some(refusal) => Some(refusal),
-        None => size_refusal(second_size.0, second_size.1),
+    if let Some(refusal) = size_refusal(first_size.0, first_size.1) {
+        return Err(refusal);
     }
-}
-
-// Makes both books, whose sizes are in range.
-fn make_both(first: &mut Book, second: &mut Book, first_size: (u8, u8), second_size: (u8, u8))
-    requires { sizes_refusal first_size second_size ≡ None }
-    ensures { ledgers_of first.new second.new ≡ empties first_size second_size }
-{
-    let _ = first.make(first_size.0, first_size.1);
-    let _ = second.make(second_size.0, second_size.1);
+    if let Some(refusal) = size_refusal(second_size.0, second_size.1) {
+        return Err(refusal);
+    }
+    first.make(first_size.0, first_size.1)?;
+    second.make(second_size.0, second_size.1)
 }
 
 // Does the calls in order. There is room for their outcomes.
@@ -46,8 +48,8 @@ fn do_all<S: Scale>(
     outcomes
 }
 
-// Makes two books of some levels and statements each, and does the calls in order. The sizes are tested first, and room
-// for the outcomes is reserved before anything changes: a run that is refused or has no memory leaves both books alone.
+// Makes two books of some levels and statements each, and does the calls in order. Room for the outcomes comes first: a
+// run that is refused or has no memory changes nothing.
 pub fn run<S: Scale>(
     heap: Global,
     scale: &S,
@@ -59,12 +61,11 @@ pub fn run<S: Scale>(
 ) -> Result<Vec<Outcome>, RunError>
     ensures { Ran (S.meaning scale.now) first_size second_size calls.items (ledgers_of first.old second.old) (ledgers_of first.new second.new) result }
 {
-    if let Some(refusal) = sizes_refusal(first_size, second_size) {
-        return Err(RunError::Refused(refusal));
-    }
     let Ok(outcomes) = Vec::with_capacity(heap, calls.len()) else {
         return Err(RunError::NoMemory);
     };
-    make_both(first, second, first_size, second_size);
-    Ok(do_all(scale, first, second, calls, outcomes))
+    match make_both(first, second, first_size, second_size) {
+        Ok(()) => Ok(do_all(scale, first, second, calls, outcomes)),
+        Err(refusal) => Err(RunError::Refused(refusal)),
+    }
 }

@@ -36,21 +36,17 @@ pub enum Line<'a> {
 
 impl<'a> Line<'a> {
     // The line that ends a run. Callers make it here, since the borrow checker does not cover a variant that holds no slice.
-    pub fn count_of(count: u64) -> Line<'a>
-        ensures { result ≡ Line.Count count }
+    pub fn count_of(scenes: u64) -> Line<'a>
+        ensures { result ≡ Line.Count scenes }
     {
-        Line::Count(count)
+        Line::Count(scenes)
     }
 
     // The line of a refusal; made here for the same reason.
-    pub fn refused_at(number: u8, line: usize, start: usize) -> Line<'a>
-        ensures { result ≡ Line.Refused number line start }
+    pub fn refused_at(number: u8, line: usize, byte: usize) -> Line<'a>
+        ensures { result ≡ Line.Refused number line byte }
     {
-        Line::Refused {
-            number,
-            line,
-            byte: start,
-        }
+        Line::Refused { number, line, byte }
     }
 
     // The word that the line begins with; a scene's line has none.

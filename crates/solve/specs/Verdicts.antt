@@ -38,10 +38,10 @@ YieldAt m cs i row d = (none : Clause) → d ≡ yield m (at row) (at row) (slic
 abbrev pub HoldsAt : Meaning → List ℕ → Clause → Type 0
 HoldsAt m row c = holds m (at row) (at row) c ≡ true
 
--- the first of some rules that does not hold at a setting, or that all hold
+-- the first row of a table whose rule does not hold, or that all hold
 abbrev pub FirstBreach : Meaning → List Rule → List ℕ → Option ℕ → Type 0
-FirstBreach m rules row None = AllByRecursion (λ r. HoldsAt m row (clause_of r)) rules
-FirstBreach m rules row (Some i) = (i < length rules) × ((d : Rule) → holds m (at row) (at row) (clause_of (slice_index_or rules i d)) ≡ false) × AllByRecursion (λ r. HoldsAt m row (clause_of r)) (take i rules)
+FirstBreach m rows row None = AllByRecursion (λ r. HoldsAt m row (clause_of r)) rows
+FirstBreach m rows row (Some i) = (i < length rows) × ((d : Rule) → holds m (at row) (at row) (clause_of (slice_index_or rows i d)) ≡ false) × AllByRecursion (λ r. HoldsAt m row (clause_of r)) (take i rows)
 
 -- Rule i is the first that does not hold at the setting, and d is the residuum of its body and its head. (`rule` is what
 -- stands at i, by its being there whatever the default.)

@@ -1,3 +1,7 @@
+pub mod Cuts
+pub mod Fixed
+pub mod Looping
 pub mod Lookups
 pub mod Obeying
 pub mod Outcomes
+pub mod Spelling

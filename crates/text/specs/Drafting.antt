@@ -4,9 +4,9 @@ use Rattle.scale.specs.declared.refusal.Refusal.{Refusal}
 use Rattle.book.specs.View.{ledger_of}
 use Rattle.text.specs.Meaning.{State, state}
 use Rattle.text.specs.declared.drafts.Draft.{Draft}
-use Rattle.faults.specs.declared.faults.Place.{Place}
-use Rattle.faults.specs.declared.faults.ReadFault.{ReadFault}
-use Rattle.faults.specs.declared.faults.ReadFault.TheVariants.{Engine}
+use Rattle.text.specs.declared.faults.Place.{Place}
+use Rattle.text.specs.declared.faults.ReadFault.{ReadFault}
+use Rattle.text.specs.declared.faults.ReadFault.TheVariants.{Engine}
 
 abbrev pub state_of : Draft → State
 state_of d = state d.scale (map (λ x. x.now) (vec_items d.names)) (ledger_of d.book)

@@ -7,10 +7,10 @@ use Rattle.book.specs.declared.rule.Head.{Head}
 use Rattle.book.specs.declared.rule.Head.TheVariants.{Statement, Bound}
 use Rattle.book.specs.declared.rule.Literal.{Literal}
 use Rattle.book.specs.declared.rule.Literal.TheVariants.{Plain, Above, Lacking}
-use Rattle.grammar.specs.Lists.{traversed}
+use Rattle.text.specs.Lists.{traversed}
 use Rattle.text.specs.Numerals.{capped}
-use Rattle.grammar.specs.Parsing.{then}
-use Rattle.grammar.specs.Shapes.{Item, plain, over, lacking, Front, statement, bound}
+use Rattle.text.specs.Parsing.{then}
+use Rattle.text.specs.Shapes.{Item, plain, over, lacking, Front, statement, bound}
 
 -- where a name stands in the list of names
 abbrev pub index_of : List (List ℕ) → List ℕ → Option ℕ

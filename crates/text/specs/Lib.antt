@@ -1,6 +1,12 @@
+pub mod Bytes
 pub mod Drafting
 pub mod Entries
+pub mod Faults
+pub mod Lists
 pub mod Meaning
 pub mod Numerals
+pub mod Parsing
 pub mod Rows
+pub mod Shapes
 pub mod Sizes
+pub mod Tokens

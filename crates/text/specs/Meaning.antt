@@ -1,26 +1,45 @@
 -- What a text means: its lines are obeyed one after another, and the first that is faulty decides.
-use Rattle.std.specs.Prelude.{◌≡◌, ℕ, ◌+◌, Bool, cond, not, ◌&&◌, ◌||◌, List, [], ◌∷◌, ◌++◌, map, length, is_some, Some, None, Ok, Err, vec_items, Option, Result, ◌==◌, nat_lt}
+use Rattle.std.specs.Prelude.{◌≡◌, ℕ, ◌+◌, Bool, cond, not, ◌&&◌, ◌||◌, List, [], ◌∷◌, ◌++◌, map, length, is_some, Some, None, Ok, Err, Option, Result, ◌==◌, nat_lt}
 use Rattle.scale.specs.declared.refusal.Refusal.{Refusal}
-use Rattle.book.specs.Ledger.{Clause, Ledger}
+use Rattle.book.specs.Ledger.{every, Clause, Ledger}
 use Rattle.book.specs.Calls.{empty, make_refusal, enter_refusal, entered}
+use Rattle.text.specs.Bytes.{allowed}
 use Rattle.text.specs.Entries.{index_of, rule_of}
 use Rattle.text.specs.Numerals.{capped}
 use Rattle.text.specs.Rows.{Row, lines_of, place_at}
-use Rattle.grammar.specs.Shapes.{Content, scale, name, rule, Account}
+use Rattle.text.specs.Shapes.{Content, scale, name, rule, Shaped}
 use Rattle.text.specs.Sizes.{levels_of, size_refusal}
-use Rattle.grammar.specs.Lines.{Found, blank, bad_byte, long_number, shapeless, says, found}
-use Rattle.grammar.specs.Tokens.{Spell}
+use Rattle.text.specs.Tokens.{Tok, Spell, short, tokens_of}
 use Rattle.text.specs.declared.drafts.ScaleSize.{ScaleSize}
-use Rattle.faults.specs.declared.faults.Place.{Place}
-use Rattle.faults.specs.declared.faults.TextFault.{TextFault}
-use Rattle.faults.specs.declared.faults.TextFault.TheVariants.{TooLong, BadByte, LongNumber}
-use Rattle.faults.specs.declared.faults.LineFault.{LineFault}
-use Rattle.faults.specs.declared.faults.LineFault.TheVariants.{Text, Shape, Name}
-use Rattle.faults.specs.declared.faults.ReadFault.{ReadFault}
-use Rattle.faults.specs.declared.faults.ReadFault.TheVariants.{Line, Engine, NoMemory}
+use Rattle.text.specs.declared.faults.Place.{Place}
+use Rattle.text.specs.declared.faults.TextFault.{TextFault}
+use Rattle.text.specs.declared.faults.TextFault.TheVariants.{TooLong, BadByte, LongNumber}
+use Rattle.text.specs.declared.faults.LineFault.{LineFault}
+use Rattle.text.specs.declared.faults.LineFault.TheVariants.{Text, Shape, Name}
+use Rattle.text.specs.declared.faults.ReadFault.{ReadFault}
+use Rattle.text.specs.declared.faults.ReadFault.TheVariants.{Line, Engine, NoMemory}
 use Rattle.text.specs.declared.reading.Reading.{Reading}
-use Rattle.text.specs.declared.reading.Named.{Named}
-use Rattle.grammar.specs.declared.shapes.ScaleKind.{ScaleKind}
+use Rattle.text.specs.declared.sizes.ScaleKind.{ScaleKind}
+
+abbrev pub is_space : ℕ → Bool
+is_space b = b == 32
+
+-- the bytes of a line are tested before its numbers
+abbrev pub unlettered : List ℕ → List Spell → Place → Result (Unit {0}) TextFault
+unlettered bytes tokens place =
+    cond (every allowed bytes) (cond (every short tokens) (Ok tt) (Err (LongNumber place))) (Err (BadByte place))
+
+abbrev pub in_line : {A B : Type 0} → Result A TextFault → Result B LineFault → Result B LineFault
+in_line (Ok a) r = r
+in_line (Err e) r = Err (Text e)
+
+abbrev pub shape_or : Option Content → Place → Result Content LineFault
+shape_or None place = Err (Shape place)
+shape_or (Some l) place = Ok l
+
+-- what a line says, or its text fault, or that it has no shape
+abbrev pub told : List ℕ → List Spell → Option Content → Place → Result Content LineFault
+told bytes tokens shape place = in_line (unlettered bytes tokens place) (shape_or shape place)
 
 -- what has been read so far: the scale, the names in their order, and the book's ledger
 pub record State : Type 0 where
@@ -71,31 +90,14 @@ obeyed st place (scale kind digits) = scaled st place kind (capped digits)
 obeyed st place (name n) = declared st place n
 obeyed st place (rule front weight body) = ruled st place (rule_of st.names front weight body)
 
--- the fault of a line's bytes or numbers, if it has one
-abbrev pub lettered : Found → Place → Result (Unit {0}) TextFault
-lettered blank place = Ok tt
-lettered bad_byte place = Err (BadByte place)
-lettered long_number place = Err (LongNumber place)
-lettered shapeless place = Ok tt
-lettered (says l) place = Ok tt
+abbrev pub obeying : State → Place → Result Content LineFault → Result State ReadFault
+obeying st place (Ok l) = obeyed st place l
+obeying st place (Err e) = Err (Line e)
 
--- what a line says, which is nothing where it is blank, or its fault
-abbrev pub told : Found → Place → Result (Option Content) LineFault
-told blank place = Ok None
-told bad_byte place = Err (Text (BadByte place))
-told long_number place = Err (Text (LongNumber place))
-told shapeless place = Err (Shape place)
-told (says l) place = Ok (Some l)
-
--- what is told of a line: a blank line does nothing
-abbrev pub heeded : State → Place → Result (Option Content) LineFault → Result State ReadFault
-heeded st place (Ok None) = Ok st
-heeded st place (Ok (Some l)) = obeyed st place l
-heeded st place (Err e) = Err (Line e)
-
--- one line, by the shape of each list of tokens
+-- one line, with the shape of each list of tokens; a line of spaces only is skipped
 abbrev pub row_read : (List Spell → Option Content) → State → Row → Result State ReadFault
-row_read shape st r = heeded st r.place (told (found shape r.place.byte r.bytes) r.place)
+row_read shape st r =
+    cond (every is_space r.bytes) (Ok st) (obeying st r.place (told r.bytes (map (λ t. t.spell) (tokens_of r.place.byte r.bytes)) (shape (map (λ t. t.spell) (tokens_of r.place.byte r.bytes))) r.place))
 
 abbrev pub after : {A B E : Type 0} → Result A E → (A → Result B E) → Result B E
 after (Ok a) f = f a
@@ -105,22 +107,15 @@ abbrev pub rows_read : (List Spell → Option Content) → State → List Row �
 rows_read shape st [] = Ok st
 rows_read shape st (r ∷ rs) = after (row_read shape st r) (λ s. rows_read shape s rs)
 
-abbrev pub reading_of : ScaleSize → ℕ → Reading
-reading_of s statements = record { kind = s.kind; size = s.size; statements = statements }
-
--- what is read, the names of the statements in their order, and the ledger that is left
+-- what is read, and the ledger that it leaves
 pub record Grant : Type 0 where
   pub reading : Reading
-  pub names : List (List ℕ)
   pub ledger : Ledger
-
-abbrev pub grant : Reading → List (List ℕ) → Ledger → Grant
-grant reading names ledger = record { reading = reading; names = names; ledger = ledger }
 
 -- a text that has no scale line has no other line either: the fault is at its end
 abbrev pub finished : List ℕ → Option ScaleSize → State → Result Grant ReadFault
 finished text None st = Err (Line (Shape (place_at text (length text))))
-finished text (Some s) st = Ok (grant (reading_of s (length st.names)) st.names st.ledger)
+finished text (Some s) st = Ok (record { reading = record { kind = s.kind; size = s.size; statements = length st.names }; ledger = st.ledger })
 
 -- a text may have 8,192 bytes
 abbrev pub fitting : List ℕ → Result (Unit {0}) TextFault
@@ -130,7 +125,6 @@ abbrev pub in_text : {A B : Type 0} → Result A TextFault → Result B ReadFaul
 in_text (Ok a) r = r
 in_text (Err e) r = Err (Line (Text e))
 
--- what a whole text comes to, by the shape of each list of tokens: its length first, then its lines, then its end
 abbrev pub outcome : (List Spell → Option Content) → List ℕ → Result Grant ReadFault
 outcome shape text =
     in_text (fitting text) (after (rows_read shape start (lines_of text)) (λ st. finished text st.scale st))
@@ -138,7 +132,7 @@ outcome shape text =
 -- what a text means, by any account of which tokens have which shape
 pub record Means (text : List ℕ) (result : Result Grant ReadFault) : Type 0 where
   pub shape : List Spell → Option Content
-  pub shaped : Account shape
+  pub shaped : (ts : List Spell) → Shaped ts (shape ts)
   pub is : outcome shape text ≡ result
 
 -- a text means one thing
@@ -152,36 +146,9 @@ Did should (Err (Line e)) st = should ≡ Err (Line e)
 Did should (Err (Engine e p)) st = should ≡ Err (Engine e p)
 Did should (Err NoMemory) st = Unit {0}
 
--- an answer, and the ledger that it leaves: where the text is refused or memory is wanted, the ledger is as it was, and
--- memory is wanted only of a text that is not too long
-abbrev pub ReadAnswers : {A : Type 0} → List ℕ → (A → Ledger → Type 0) → Ledger → Result A ReadFault → Ledger → Type 0
-ReadAnswers text Says before (Ok a) left = Says a left
-ReadAnswers text Says before (Err (Line e)) left = Means text (Err (Line e)) × (left ≡ before)
-ReadAnswers text Says before (Err (Engine e p)) left = Means text (Err (Engine e p)) × (left ≡ before)
-ReadAnswers text Says before (Err NoMemory) left = (fitting text ≡ Ok tt) × (left ≡ before)
-
--- a reading with its names, and a ledger, as a grant
-abbrev pub granted_by : Named → Ledger → Grant
-granted_by n left = grant n.reading (map (λ x. x.now) (vec_items n.names)) left
-
--- what the lines of a text came to
-abbrev pub Ends : List ℕ → State → Ledger → Result Named LineFault → Ledger → Type 0
-Ends text st before (Ok n) left = finished text st.scale st ≡ Ok (granted_by n left)
-Ends text st before (Err e) left = (finished text st.scale st ≡ Err (Line e)) × (left ≡ before)
-
--- what reading answers with the names, and the ledger that it leaves
-abbrev pub ReadsNamed : List ℕ → Ledger → Result Named ReadFault → Ledger → Type 0
-ReadsNamed text = ReadAnswers text (λ n left. Means text (Ok (granted_by n left)))
-
-abbrev pub less_names : Result Named ReadFault → Result Reading ReadFault
-less_names (Ok n) = Ok n.reading
-less_names (Err e) = Err e
-
--- a grant whose names are not told: they are some, and by `Once` there is but one choice
-pub record Tells (text : List ℕ) (reading : Reading) (left : Ledger) : Type 0 where
-  pub names : List (List ℕ)
-  pub means : Means text (Ok (grant reading names left))
-
--- what reading answers, and the ledger that it leaves
+-- what reading answers, and the ledger that it leaves: where it refuses or wants memory, the ledger is as it was
 abbrev pub Reads : List ℕ → Ledger → Result Reading ReadFault → Ledger → Type 0
-Reads text = ReadAnswers text (Tells text)
+Reads text before (Ok r) left = Means text (Ok (record { reading = r; ledger = left }))
+Reads text before (Err (Line e)) left = Means text (Err (Line e)) × (left ≡ before)
+Reads text before (Err (Engine e p)) left = Means text (Err (Engine e p)) × (left ≡ before)
+Reads text before (Err NoMemory) left = left ≡ before

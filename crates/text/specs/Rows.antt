@@ -1,22 +1,19 @@
 -- The lines of a text.
-use Rattle.std.specs.Prelude.{ℕ, ◌+◌, Bool, List, [], ◌∷◌, length, take, count_by, ◌==◌}
-use Rattle.std.specs.List.{prefix_len}
-use Rattle.grammar.specs.Lists.{other, parted}
-use Rattle.faults.specs.Faults.{place as at}
-use Rattle.faults.specs.declared.faults.Place.{Place}
+use Rattle.std.specs.Prelude.{ℕ, suc, ◌+◌, Bool, List, [], ◌∷◌, length, take, count_by, ◌==◌}
+use Rattle.text.specs.Lists.{parted}
+use Rattle.text.specs.declared.faults.Place.{Place}
 
 -- byte 10 ends a line
 abbrev pub ends_line : ℕ → Bool
 ends_line b = b == 10
 
--- the bytes before the first that ends a line
-abbrev pub first_line : List ℕ → List ℕ
-first_line bytes = take (prefix_len (other ends_line) bytes) bytes
-
 -- a line: where it is, and its bytes
 pub record Row : Type 0 where
   pub place : Place
   pub bytes : List ℕ
+
+abbrev pub at : ℕ → ℕ → Place
+at line byte = record { line = line; byte = byte }
 
 abbrev pub row : Place → List ℕ → Row
 row place bytes = record { place = place; bytes = bytes }

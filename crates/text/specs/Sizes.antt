@@ -3,8 +3,8 @@ use Rattle.std.specs.Prelude.{ℕ, ◌+◌, ◌^◌, ◌||◌, [], ◌∷◌, Op
 use Rattle.scale.specs.Causes.{cause, first_met}
 use Rattle.scale.specs.declared.refusal.Refusal.{Refusal}
 use Rattle.scale.specs.declared.refusal.Refusal.TheVariants.{ScaleSize}
-use Rattle.grammar.specs.declared.shapes.ScaleKind.{ScaleKind}
-use Rattle.grammar.specs.declared.shapes.ScaleKind.TheVariants.{Luk, Godel, Hours}
+use Rattle.text.specs.declared.sizes.ScaleKind.{ScaleKind}
+use Rattle.text.specs.declared.sizes.ScaleKind.TheVariants.{Luk, Godel, Hours}
 
 abbrev pub largest : ScaleKind → ℕ
 largest Luk = 63

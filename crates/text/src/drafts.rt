@@ -1,8 +1,8 @@
 // The book that a text describes, as far as its lines have been read.
-ghost use Rattle.std.specs.Prelude.{◌≤◌, vec_len};
+ghost use Rattle.std.specs.Prelude.{◌≡◌, ◌≤◌, vec_len};
 
+use super::sizes::ScaleKind;
 use book::Book;
-use grammar::ScaleKind;
 
 #[derive(Clone, Copy)]
 pub(crate) struct ScaleSize {

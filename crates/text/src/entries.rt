@@ -1,13 +1,14 @@
 // Names are looked up in the list of those declared.
 ghost use Rattle.std.specs.Prelude.{◌≡◌, ◌≤◌, map, length, IfOk, vec_items};
 ghost use Rattle.std.specs.Option.{option_map};
-ghost use Rattle.grammar.specs.Lists.{traversed};
-ghost use Rattle.grammar.specs.Shapes.{seen_term, seen_lead};
+ghost use Rattle.text.specs.Lists.{traversed};
+ghost use Rattle.text.specs.Shapes.{seen_term, seen_lead};
 ghost use Rattle.text.specs.Entries.{index_of, head_of, literal_of};
 
+use super::bytes::same;
 use super::numerals::capped_value;
+use super::shapes::{Lead, Term};
 use book::{Head, Literal};
-use grammar::{Lead, Term, same_name};
 use std::alloc::{AllocError, Global};
 
 // The number of the statement that has this name.
@@ -16,7 +17,7 @@ pub(crate) fn statement(names: &[&[u8]], name: &[u8]) -> Option<u8>
     ensures { result ≡ index_of (map (λ x. x.now) names.now) name.now }
 {
     for (i, known) in names.iter().enumerate() {
-        if same_name(known, name) {
+        if same(known, name) {
             return Some(i as u8);
         }
     }

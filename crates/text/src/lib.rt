@@ -1,14 +1,21 @@
 // Rule books as text: what a text says is put into a book, or the first fault of the text is named.
 #![tactic(auto)]
 
+mod bodies;
+mod bytes;
+mod checks;
+mod cutting;
 mod drafts;
 mod entries;
-mod lines;
+mod faults;
 mod numerals;
+mod parsing;
 mod reading;
+mod shapes;
 mod sizes;
 mod steps;
+mod tokens;
 
 pub use faults::{Layer, LineFault, Place, ReadFault, TextFault};
-pub use grammar::ScaleKind;
-pub use reading::{Named, Reading, read, read_named};
+pub use reading::{Reading, read};
+pub use sizes::ScaleKind;

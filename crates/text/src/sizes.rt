@@ -1,10 +1,16 @@
-// How many levels each kind of scale has.
+// The kinds of scale and how many levels each has.
 ghost use Rattle.std.specs.Prelude.{◌≡◌};
 ghost use Rattle.scale.specs.Causes.{answered};
 ghost use Rattle.text.specs.Sizes.{levels_of, size_refusal};
 
-use grammar::ScaleKind;
 use scale::{Godel, Hours, Luk, Refusal, Scale};
+
+#[derive(Clone, Copy, PartialEq, Eq, Debug)]
+pub enum ScaleKind {
+    Luk,
+    Godel,
+    Hours,
+}
 
 // The levels of a scale, or a refusal where there is none of this size.
 pub(crate) fn scale_levels(kind: ScaleKind, size: u8) -> Result<u8, Refusal>

@@ -1,19 +1,21 @@
 // What each line does to a draft.
-ghost use Rattle.std.specs.Prelude.{◌≡◌, ◌^◌, ◌<◌, map};
+ghost use Rattle.std.specs.Prelude.{◌≡◌, ◌+◌, ◌^◌, ◌<◌, map, length};
 ghost use Rattle.text.specs.Drafting.{state_of, placed};
 ghost use Rattle.text.specs.Entries.{rule_of};
 ghost use Rattle.text.specs.Meaning.{Did, scaled, may_declare, declared, ruled, obeyed, row_read};
-ghost use Rattle.grammar.specs.Parsing.{line_of};
+ghost use Rattle.text.specs.Parsing.{line_of};
 ghost use Rattle.text.specs.Rows.{row};
-ghost use Rattle.grammar.specs.Shapes.{seen_line, seen_lead, seen_term};
+ghost use Rattle.text.specs.Shapes.{seen_line, seen_lead, seen_term};
 
+use super::checks::{check_line, is_blank};
+use super::cutting::cut;
 use super::drafts::{Draft, ScaleSize};
 use super::entries::{body_in, head_in, statement};
-use super::lines::said_in;
+use super::faults::{LineFault, Place, ReadFault};
 use super::numerals::capped_value;
-use super::sizes::scale_levels;
-use faults::{LineFault, Place, ReadFault};
-use grammar::{Lead, Line, ScaleKind, Term, parse};
+use super::parsing::parse_line;
+use super::shapes::{Lead, Line, Term};
+use super::sizes::{ScaleKind, scale_levels};
 use scale::Refusal;
 use std::alloc::Global;
 
@@ -106,20 +108,22 @@ impl<'a> Draft<'a> {
         }
     }
 
-    // Takes the draft on by one line; a line that is refused leaves it as it was.
+    // Reads one line.
     pub(crate) fn read_line(
         &mut self,
         heap: Global,
         line: &'a [u8],
         place: Place,
     ) -> Result<(), ReadFault>
-        requires { place.byte < 2 ^ 32 }
+        requires { place.byte + length line.now < 2 ^ 64 }
         ensures { Did (row_read line_of (state_of self.old) (row place line.now)) result (state_of self.new) }
     {
-        let parsed = parse(heap, line, place.byte as u32)?;
-        match said_in(parsed, place)? {
-            Some(said) => self.obey(heap, said, place),
-            None => Ok(()),
+        if is_blank(line) {
+            return Ok(());
         }
+        let tokens = cut(heap, line, place.byte)?;
+        let shape = parse_line(heap, tokens.as_slice())?;
+        let said = check_line(line, tokens.as_slice(), shape, place)?;
+        self.obey(heap, said, place)
     }
 }

@@ -37,7 +37,10 @@ pub scene_from : {m : Meaning} {cs : List Clause} {n : ℕ} {row : List ℕ} {r 
 scene_from {m} {cs} {row = row} all rounds least = record { rounds = rounds; least = least; bounds = all_map (bound_part m (at row) (at row)) cs all }
 
 module _ {m : Meaning} (laws : Laws m) (n : ℕ) (cs : List Clause) (hs : AllByRecursion (Within m.levels n) cs) where
-  -- where a raising leaves a row alone the rules hold
+  -- where the rules hold a raising lifts nothing, and where it leaves a row alone they hold
+  pub raise_met : (upper row : List ℕ) → Degrees m (at upper) → Degrees m (at row) → AllByRecursion (StatementHolds m (at row) (at upper)) cs → Rows m (at (raise m cs n upper row)) (at row)
+  raise_met upper row du dr met s = rw (at_raise laws n cs hs upper row s) (gain_met laws dr du n cs hs met s)
+
   pub met_where_still : (upper row : List ℕ) → Degrees m (at upper) → Degrees m (at row) → raise m cs n upper row ≡ row → AllByRecursion (StatementHolds m (at row) (at upper)) cs
   met_where_still upper row du dr e =
       met_from_gain laws dr du n cs hs

@@ -1,5 +1,5 @@
 -- The order of a scale, carrying the ranges of its two sides, and what the laws give of join, product and lack in it.
-use Rattle.std.proofs.Common.{◌≡◌, ℕ, ◌<◌, true, sym, ap, ◌∙◌, arith}
+use Rattle.std.proofs.Common.{◌≡◌, ℕ, ◌<◌, true, sym, ap, ◌∙◌, subst, arith}
 use Rattle.scale.specs.Meaning.{Meaning, Laws, top}
 
 -- a is below b, and both are degrees
@@ -17,6 +17,9 @@ module _ {m : Meaning} (laws : Laws m) where
 
   pub le_refl : {a : ℕ} → a < m.levels → Le m a a
   le_refl {a} h = record { lo = h; hi = h; is = laws.below_refl a h }
+
+  pub le_same : {a b : ℕ} → a < m.levels → a ≡ b → Le m a b
+  le_same {a} h e = subst (λ (x : ℕ). Le m a x) e (le_refl h)
 
   pub le_trans : {a b c : ℕ} → Le m a b → Le m b c → Le m a c
   le_trans {a} {b} {c} p q = record { lo = p.lo; hi = q.hi; is = laws.below_trans a b c p.lo p.hi q.hi p.is q.is }
@@ -48,6 +51,10 @@ module _ {m : Meaning} (laws : Laws m) where
 
   pub join_zero_right : {a : ℕ} → a < m.levels → m.join a 0 ≡ a
   join_zero_right h = le_antisym (join_lub (le_refl h) (bottom_le h)) (join_upper_left h zero_degree)
+
+  pub join_comm : {a b : ℕ} → a < m.levels → b < m.levels → m.join a b ≡ m.join b a
+  join_comm p q =
+      le_antisym (join_lub (join_upper_right q p) (join_upper_left q p)) (join_lub (join_upper_right p q) (join_upper_left p q))
 
   pub join_assoc : {a b c : ℕ} → a < m.levels → b < m.levels → c < m.levels → m.join (m.join a b) c ≡ m.join a (m.join b c)
   join_assoc {a} {b} {c} p q r =

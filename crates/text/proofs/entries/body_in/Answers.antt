@@ -1,10 +1,10 @@
-use Rattle.std.proofs.Common.{◌+◌, map, get_or, drop, vec_items, sym, ap, ◌∙◌}
-use Rattle.grammar.proofs.Fixed.{no_term}
+use Rattle.std.proofs.Common.{◌≡◌, ◌+◌, List, [], ◌∷◌, ◌++◌, map, get_or, drop, Some, vec_items, sym, ap, ◌∙◌}
+use Rattle.text.proofs.Fixed.{no_term}
 use Rattle.std.proofs.lemmas.List.{at_drop_more, at_drop_all}
 use Rattle.text.specs.Entries.{literal_of}
-use Rattle.grammar.specs.Lists.{traversed}
-use Rattle.grammar.specs.Shapes.{seen_term}
-use Rattle.grammar.proofs.Looping.{after, after_none, after_all, after_more, after_stop}
+use Rattle.text.specs.Lists.{traversed}
+use Rattle.text.specs.Shapes.{seen_term}
+use Rattle.text.proofs.Looping.{after, after_none, after_all, after_more, after_stop}
 use Rattle.text.proofs.entries.body_in.Goals as goal
 
 pub loop-term-init : goal.loop-term-init

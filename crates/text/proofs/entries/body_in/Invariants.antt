@@ -1,8 +1,8 @@
 use Rattle.std.proofs.Common.{◌≡◌, map, drop, vec_items}
 use Rattle.text.specs.Entries.{literal_of}
-use Rattle.grammar.specs.Lists.{traversed}
-use Rattle.grammar.specs.Shapes.{seen_term}
-use Rattle.grammar.proofs.Looping.{after}
+use Rattle.text.specs.Lists.{traversed}
+use Rattle.text.specs.Shapes.{seen_term}
+use Rattle.text.proofs.Looping.{after}
 use Rattle.text.proofs.entries.body_in.Given as goal
 
 abbrev pub invariant-loop-term : goal.invariant-loop-term

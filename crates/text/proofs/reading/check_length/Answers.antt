@@ -1,6 +1,6 @@
 use Rattle.std.proofs.Common.{Err, sym, ap, ◌∙◌}
 use Rattle.std.proofs.lemmas.Bool.{cond-true, lt-ltb}
-use Rattle.faults.specs.declared.faults.TextFault.TheVariants.{TooLong}
+use Rattle.text.specs.declared.faults.TextFault.TheVariants.{TooLong}
 use Rattle.text.proofs.reading.check_length.Goals as goal
 
 pub returns-then-text-gt-LONGEST_TEXT : goal.returns-then-text-gt-LONGEST_TEXT

@@ -1,6 +1,6 @@
 use Rattle.std.proofs.Common.{◌≡◌, ◌+◌, ◌-◌, ◌≤◌, length, drop}
 use Rattle.std.specs.List.{prefix_len}
-use Rattle.grammar.specs.Lists.{other}
+use Rattle.text.specs.Lists.{other}
 use Rattle.text.specs.Rows.{ends_line}
 use Rattle.text.proofs.reading.line_len.Given as goal
 

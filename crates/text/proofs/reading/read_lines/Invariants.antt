@@ -1,9 +1,9 @@
 use Rattle.std.proofs.Common.{◌≡◌, ◌+◌, ◌-◌, ◌≤◌, length}
 use Rattle.text.specs.Drafting.{state_of}
 use Rattle.text.specs.Meaning.{rows_read}
-use Rattle.grammar.specs.Parsing.{line_of}
+use Rattle.text.specs.Parsing.{line_of}
 use Rattle.text.specs.Rows.{ends_line, rows, lines_of}
-use Rattle.grammar.proofs.Looping.{left}
+use Rattle.text.proofs.Looping.{left}
 use Rattle.text.proofs.reading.read_lines.Given as goal
 
 -- the lines that are left, read from here, do what all lines should

@@ -1,14 +1,15 @@
-use Rattle.std.proofs.Common.{◌≡◌, map, Some, Ok, vec_items, sym, ap, ◌∙◌, ap₂}
+use Rattle.std.proofs.Common.{◌≡◌, map, Some, None, Ok, vec_items, sym, refl, ap, ◌∙◌, ap₂}
 use Rattle.std.specs.Option.{option_map}
 use Rattle.scale.specs.Causes.{answered}
 use Rattle.book.specs.Calls.{enter_refusal, entered}
 use Rattle.book.specs.Ledger.{clause}
+use Rattle.book.specs.View.{ledger_of}
 use Rattle.text.specs.Drafting.{state_of, placed}
 use Rattle.text.specs.Entries.{head_of, literal_of, rule_of}
-use Rattle.grammar.specs.Lists.{traversed}
+use Rattle.text.specs.Lists.{traversed}
 use Rattle.text.specs.Meaning.{state, entering, granted}
 use Rattle.text.specs.Numerals.{capped}
-use Rattle.grammar.specs.Shapes.{seen_lead, seen_term}
+use Rattle.text.specs.Shapes.{seen_lead, seen_term}
 use Rattle.text.proofs.Obeying.{did_asked, ruled_asks, rule_none, rule_some}
 use Rattle.text.proofs.drafts.Draft.enter.Goals as goal
 use Rattle.text.proofs.drafts.Draft.enter.Goals.{In_ok-literals}

@@ -1,4 +1,0 @@
-pub mod Cuts
-pub mod Fixed
-pub mod Looping
-pub mod Spelling

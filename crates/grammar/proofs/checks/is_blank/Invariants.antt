@@ -1,7 +1,0 @@
-use Rattle.std.proofs.Common.{◌≡◌, drop}
-use Rattle.book.specs.Ledger.{every}
-use Rattle.grammar.specs.Lines.{is_space}
-use Rattle.grammar.proofs.checks.is_blank.Given as goal
-
-abbrev pub invariant-loop-b : goal.invariant-loop-b
-invariant-loop-b l = every is_space (drop l.b-index l.line) ≡ every is_space l.line

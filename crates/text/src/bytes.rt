@@ -1,0 +1,79 @@
+// What the bytes of a text are for.
+ghost use Rattle.std.specs.Prelude.{◌≡◌};
+ghost use Rattle.std.specs.List.{prefix_len};
+ghost use Rattle.std.specs.Str.{bytes_eq};
+ghost use Rattle.book.specs.Ledger.{every};
+ghost use Rattle.text.specs.Bytes.{digit, wordly, sign_of, allowed};
+
+use super::tokens::Mark;
+
+pub(crate) fn is_word_byte(b: u8) -> bool
+    ensures { result ≡ wordly b }
+{
+    matches!(b, b'a'..=b'z' | b'0'..=b'9' | b'_')
+}
+
+pub(crate) fn mark_of(b: u8) -> Option<Mark>
+    ensures { result ≡ sign_of b }
+{
+    match b {
+        b':' => Some(Mark::Colon),
+        b',' => Some(Mark::Comma),
+        b'>' => Some(Mark::Above),
+        b'~' => Some(Mark::Not),
+        _ => None,
+    }
+}
+
+fn is_allowed(b: u8) -> bool
+    ensures { result ≡ allowed b }
+{
+    is_word_byte(b) | (b == b' ') | mark_of(b).is_some()
+}
+
+// Is every byte of the line allowed?
+pub(crate) fn all_allowed(line: &[u8]) -> bool
+    ensures { result ≡ every allowed line.now }
+{
+    for b in line {
+        if !is_allowed(*b) {
+            return false;
+        }
+    }
+    true
+}
+
+fn is_digit(b: u8) -> bool
+    ensures { result ≡ digit b }
+{
+    matches!(b, b'0'..=b'9')
+}
+
+// Is the word made of digits only?
+pub(crate) fn all_digits(word: &[u8]) -> bool
+    ensures { result ≡ every digit word.now }
+{
+    for b in word {
+        if !is_digit(*b) {
+            return false;
+        }
+    }
+    true
+}
+
+// How many bytes of a word stand at the front.
+pub(crate) fn word_len(bytes: &[u8]) -> usize
+    ensures { result ≡ prefix_len wordly bytes.now }
+{
+    let mut n = 0;
+    while n < bytes.len() && is_word_byte(bytes[n]) {
+        n += 1;
+    }
+    n
+}
+
+pub(crate) fn same(a: &[u8], b: &[u8]) -> bool
+    ensures { result ≡ bytes_eq a.now b.now }
+{
+    a == b
+}
