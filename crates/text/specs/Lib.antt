@@ -4,6 +4,7 @@ pub mod Entries
 pub mod Faults
 pub mod Lists
 pub mod Meaning
+pub mod Naming
 pub mod Numerals
 pub mod Parsing
 pub mod Rows

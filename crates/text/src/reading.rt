@@ -1,10 +1,11 @@
 // A whole text.
-ghost use Rattle.std.specs.Prelude.{◌≡◌, ◌≤◌, length, Ok, Err, MatchResult};
+ghost use Rattle.std.specs.Prelude.{◌≡◌, ◌≤◌, map, length, IfOk};
 ghost use Rattle.std.specs.List.{prefix_len};
 ghost use Rattle.book.specs.View.{ledger_of};
 ghost use Rattle.text.specs.Drafting.{state_of};
 ghost use Rattle.text.specs.Lists.{other};
 ghost use Rattle.text.specs.Meaning.{Did, rows_read, Reads, Once, fitting};
+ghost use Rattle.text.specs.Naming.{less_names, Declares, DeclaresOnce};
 ghost use Rattle.text.specs.Parsing.{line_of};
 ghost use Rattle.text.specs.Rows.{ends_line, lines_of, place_at};
 
@@ -23,6 +24,13 @@ pub struct Reading {
     pub kind: ScaleKind,
     pub size: u8,
     pub statements: u8,
+}
+
+// A reading and the names of its statements, in their order.
+#[derive(Drop)]
+pub struct Named<'a> {
+    pub reading: Reading,
+    pub names: Vec<&'a [u8]>,
 }
 
 fn place_of(text: &[u8], byte: usize) -> Place
@@ -74,9 +82,11 @@ fn read_lines<'a>(heap: Global, text: &'a [u8], draft: &mut Draft<'a>) -> Result
 }
 
 // Fills the book with what the text says, in place of what it held; a refused text leaves it as it was.
-pub fn read(heap: Global, text: &[u8], book: &mut Book) -> Result<Reading, ReadFault>
-    ensures answer { Reads text.now (ledger_of book.old) result (ledger_of book.new) }
+pub fn read_named<'a>(heap: Global, text: &'a [u8], book: &mut Book) -> Result<Named<'a>, ReadFault>
+    ensures answer { Reads text.now (ledger_of book.old) (less_names result) (ledger_of book.new) }
     ensures only { Once text.now }
+    ensures names { IfOk result (λ n. Declares text.now (map (λ x. x.now) n.names.items)) }
+    ensures names_only { DeclaresOnce text.now }
 {
     check_length(text)?;
     let mut draft = Draft {
@@ -94,11 +104,30 @@ pub fn read(heap: Global, text: &[u8], book: &mut Book) -> Result<Reading, ReadF
         None => Err(ReadFault::Line(LineFault::Shape(place_of(text, text.len())))),
         Some(ScaleSize { kind, size }) => {
             *book = fresh;
-            Ok(Reading {
-                kind,
-                size,
-                statements: names.len() as u8,
+            let statements = names.len() as u8;
+            Ok(Named {
+                reading: Reading {
+                    kind,
+                    size,
+                    statements,
+                },
+                names,
             })
         }
     }
+}
+
+fn less_names(answer: Result<Named, ReadFault>) -> Result<Reading, ReadFault>
+    ensures { result ≡ less_names answer.entry }
+{
+    let named = answer?;
+    Ok(named.reading)
+}
+
+// As read_named, less the names.
+pub fn read(heap: Global, text: &[u8], book: &mut Book) -> Result<Reading, ReadFault>
+    ensures answer { Reads text.now (ledger_of book.old) result (ledger_of book.new) }
+    ensures only { Once text.now }
+{
+    less_names(read_named(heap, text, book))
 }

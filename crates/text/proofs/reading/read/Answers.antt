@@ -1,46 +1,9 @@
-use Rattle.std.proofs.Common.{◌≡◌, map, length, Some, None, Ok, Err, vec_items, sym, refl, ap, ◌∙◌, subst, ap₂}
-use Rattle.std.proofs.lemmas.List.{length-map}
-use Rattle.std.proofs.lemmas.Result.{err_from_is_err_and}
+use Rattle.std.proofs.Common.{sym, subst}
 use Rattle.book.specs.View.{ledger_of}
-use Rattle.text.specs.Drafting.{state_of}
-use Rattle.text.specs.Meaning.{state, start, rows_read, Means, Did}
-use Rattle.text.specs.Parsing.{line_of}
-use Rattle.text.specs.Rows.{lines_of}
-use Rattle.text.specs.declared.faults.LineFault.TheVariants.{Shape}
-use Rattle.text.specs.declared.faults.ReadFault.TheVariants.{Line}
-use Rattle.text.proofs.Outcomes.{fit, reads_long, reads_unread, reads_stopped, means_none, means_some, means_once}
+use Rattle.text.specs.Meaning.{Reads}
 use Rattle.text.proofs.reading.read.Goals as goal
-use Rattle.text.proofs.reading.read.Goals.{After-read_lines}
-
--- the draft that the reading begins with
-begun : (c : After-read_lines) → state None (map (λ x. x.now) (vec_items c.new.result)) (ledger_of c.in_ok-new.field-0) ≡ start
-begun c = ap₂ (λ l b. state None (map (λ x. x.now) l) b) c.new.ensures.items c.in_ok-new.ensures
-
-pub returns-in_err-check_length : goal.returns-in_err-check_length
-returns-in_err-check_length c =
-    let p = err_from_is_err_and c.from_residual.result c.from_residual.ensures.1 in
-    record { only = means_once c.args.text.now; answer = reads_long c.args.text.now _ _ refl c.in_err-check_length.field-0.0 c.from_residual.result c.in_err-check_length.ensures (p.1 ∙ ap Err p.2) }
-
-pub read_lines-requires : goal.read_lines-requires
-read_lines-requires c = fit c.args.text.now c.in_ok-check_length.field-0 c.in_ok-check_length.ensures
-
-pub returns-in_err-read_lines : goal.returns-in_err-read_lines
-returns-in_err-read_lines c =
-    let p = err_from_is_err_and c.from_residual-in_err-read_lines.result c.from_residual-in_err-read_lines.ensures.1 in
-    record { only = means_once c.args.text.now; answer = reads_stopped c.args.text.now _ _ refl c.in_ok-check_length.field-0 c.in_ok-check_length.ensures c.in_err-read_lines.field-0.0 (state_of c.read_lines.new.draft) c.from_residual-in_err-read_lines.result (subst (λ s. Did (rows_read line_of s (lines_of c.args.text.now)) (Err c.in_err-read_lines.field-0.0) (state_of c.read_lines.new.draft)) (begun (goal.at.returns-in_err-read_lines c).After-read_lines) c.in_err-read_lines.ensures) (p.1 ∙ ap Err p.2) }
-
-pub returns-in-None : goal.returns-in-None
-returns-in-None c =
-    let ran = sym (ap (λ s. rows_read line_of s (lines_of c.args.text.now)) (begun (goal.at.returns-in-None c).After-read_lines)) ∙ c.in_ok-read_lines.ensures in
-    record { only = means_once c.args.text.now; answer = (subst (λ p. Means c.args.text.now (Err (Line (Shape p)))) (sym c.place_of.ensures) (means_none c.args.text.now c.in_ok-check_length.field-0 c.in_ok-check_length.ensures (state_of c.read_lines.new.draft) ran c.in-None.is), refl) }
 
 pub returns : goal.returns
 returns c =
-    let ran = sym (ap (λ s. rows_read line_of s (lines_of c.args.text.now)) (begun (goal.at.returns c).After-read_lines)) ∙ c.in_ok-read_lines.ensures in
-    let counted : length (map (λ x. x.now) (vec_items c.read_lines.new.draft.names)) ≡ c.len.result = length-map (vec_items c.read_lines.new.draft.names) (λ x. x.now) ∙ sym c.read_lines.new.draft.names.ok.0 ∙ sym c.len.ensures in
-    record { only = means_once c.args.text.now; answer = subst (λ n. Means c.args.text.now (Ok (record { reading = record { kind = c.in-Some.field-0.kind; size = c.in-Some.field-0.size; statements = n }; ledger = ledger_of c.read_lines.new.draft.book }))) counted (means_some c.args.text.now c.in_ok-check_length.field-0 c.in_ok-check_length.ensures (state_of c.read_lines.new.draft) ran c.in-Some.field-0 c.in-Some.is) }
-
-pub returns-in_err-new : goal.returns-in_err-new
-returns-in_err-new c =
-    let p = err_from_is_err_and c.from_residual-in_err-new.result c.from_residual-in_err-new.ensures.1 in
-    record { only = means_once c.args.text.now; answer = reads_unread c.args.text.now _ _ refl c.from_residual-in_err-new.result (p.1 ∙ ap Err p.2) }
+    let left = ledger_of c.read_named.new.book in
+    record { only = c.read_named.ensures.only; answer = subst (λ r. Reads c.args.text.now (ledger_of c.args.book.now) r left) (sym c.less_names.ensures) c.read_named.ensures.answer }
