@@ -97,12 +97,12 @@ pub fn check<S: Scale>(scale: &S, book: &Book, setting: &[u8]) -> Result<Verdict
 pub fn yield_at<S: Scale>(scale: &S, book: &Book, i: usize, setting: &[u8]) -> Result<u8, Refusal>
     ensures { Answers (yield_refusal (S.meaning scale.now) (ledger_of book.now) i setting.now) result (YieldAt (S.meaning scale.now) (ledger_of book.now).rules i setting.now) }
 {
-    let levels = book.levels();
-    if !all_below(setting, levels) {
+    let count = book.levels();
+    if !all_below(setting, count) {
         return Err(Refusal::DegreeTooHigh);
     }
     let rule = book.rule(i)?;
-    if scale.levels() != levels {
+    if scale.levels() != count {
         return Err(Refusal::LevelsDiffer);
     }
     if setting.len() != usize::from(book.statements()) {

@@ -1,11 +1,11 @@
 -- One turn of the cut of a line into tokens.
-use Rattle.std.proofs.Common.{◌≡◌, ℕ, zero, suc, ◌+◌, ◌<◌, ◌≤◌, true, false, cond, List, [], ◌∷◌, ◌++◌, length, get_or, take, drop, Some, None, Option, sym, refl, ap, ◌∙◌, ⊎_elim, append_assoc, append-nil, arith}
+use Rattle.std.proofs.Common.{◌≡◌, ℕ, zero, suc, ◌+◌, ◌<◌, ◌≤◌, true, false, List, [], ◌∷◌, ◌++◌, length, get_or, take, drop, Some, None, Option, sym, refl, ap, ◌∙◌, ⊎_elim, append_assoc, append-nil, arith}
 use Rattle.std.specs.List.{prefix_len}
 use Rattle.std.proofs.lemmas.List.{at_drop_more, at_drop_all, drop-drop}
 use Rattle.std.proofs.lemmas.List.Sums.{prefix_len-drop_yes}
 use Rattle.std.proofs.lemmas.Bool.{cond-true, cond-false, cases_Bool}
 use Rattle.text.specs.Bytes.{wordly, sign_of}
-use Rattle.text.specs.Tokens.{Tok, token, mark, Piece, run, sign, gap, run_spell, grown, stopped, pieces, tokens_in, tokens_of}
+use Rattle.text.specs.Tokens.{Tok, token, mark, Piece, run, run_spell, grown, stopped, pieces, tokens_in, tokens_of}
 use Rattle.text.specs.declared.tokens.Mark.{Mark}
 
 grown_stopped : (i b j : ℕ) (o : Option Mark) (ps : List Piece) → grown i b (stopped j o ps) ≡ run (b ∷ []) i ∷ stopped j o ps

@@ -1,11 +1,11 @@
 -- What each line does, step by step.
-use Rattle.std.proofs.Common.{◌≡◌, ℕ, ◌+◌, ◌-◌, ◌≤◌, Bool, true, false, cond, not, ltb, List, [], ◌∷◌, ◌++◌, map, length, take, drop, is_some, Some, None, Ok, Err, Option, Result, sym, refl, ap, ◌∙◌, subst, ap₂, arith}
+use Rattle.std.proofs.Common.{◌≡◌, ℕ, ◌+◌, ◌-◌, ◌≤◌, true, false, not, ltb, List, [], ◌∷◌, ◌++◌, map, length, take, drop, is_some, Some, None, Ok, Err, Option, Result, sym, refl, ap, ◌∙◌, subst, arith}
 use Rattle.std.specs.Option.{option_map}
-use Rattle.std.proofs.lemmas.Bool.{cond-true, cond-false, or_from, le-ltb}
+use Rattle.std.proofs.lemmas.Bool.{cond-false, or_from, le-ltb}
 use Rattle.scale.specs.Causes.{answered}
 use Rattle.scale.specs.declared.refusal.Refusal.{Refusal}
 use Rattle.book.specs.Ledger.{Clause, clause, every}
-use Rattle.book.specs.Calls.{empty, make_refusal, enter_refusal, entered}
+use Rattle.book.specs.Calls.{empty, make_refusal}
 use Rattle.book.specs.declared.rule.Head.{Head}
 use Rattle.book.specs.declared.rule.Literal.{Literal}
 use Rattle.text.specs.Drafting.{placed}

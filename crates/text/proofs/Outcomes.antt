@@ -1,5 +1,5 @@
 -- What a whole text means, from what its length, its lines and its end give.
-use Rattle.std.proofs.Common.{◌≡◌, ℕ, ◌≤◌, ltb, List, length, Some, None, Ok, Err, Option, Result, sym, refl, ap, ◌∙◌, subst, ⊎_elim, arith}
+use Rattle.std.proofs.Common.{◌≡◌, ℕ, ◌≤◌, ltb, List, length, Some, None, Ok, Err, Result, sym, ap, ◌∙◌, subst, ⊎_elim, arith}
 use Rattle.std.proofs.lemmas.Bool.{cond-true, cases_Bool, ltb-false}
 use Rattle.book.specs.Ledger.{Ledger}
 use Rattle.text.specs.Meaning.{State, start, rows_read, after, finished, fitting, in_text, Grant, Means, Did, Reads, Once, outcome}

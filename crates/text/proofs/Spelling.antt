@@ -1,14 +1,13 @@
 -- The shape that is worked out token by token is the one that spells the tokens: there is one exactly where it is found.
-use Rattle.std.proofs.Common.{◌≡◌, ℕ, Bool, true, false, cond, ◌&&◌, ◌⊎◌, List, [], ◌∷◌, ◌++◌, map, Some, None, codes, Option, sym, refl, ap, ◌∙◌, subst, inl, inr, ⊎_elim, arith}
+use Rattle.std.proofs.Common.{◌≡◌, ℕ, Bool, true, false, cond, ◌⊎◌, List, [], ◌∷◌, ◌++◌, map, Some, None, codes, Option, sym, refl, ap, ◌∙◌, subst, inl, inr, ⊎_elim, arith}
 use Rattle.std.specs.Str.{bytes_eq}
 use Rattle.std.proofs.lemmas.Slice.Eq.{bytes_eq-Decides}
 use Rattle.std.proofs.lemmas.Bool.{cond-true, cond-false, cases_Bool, and_parts, and_from}
 use Rattle.book.specs.Ledger.{every}
 use Rattle.text.specs.Lists.{onto, parted, added, traversed}
 use Rattle.text.specs.Parsing.{is_mark, name_of, number_of, verb_of, kind_of, then, term_of, terms_of, body_of, scale_line_of, name_line_of, rule_line_of, bound_line_of, line_by, line_of}
-use Rattle.text.specs.Shapes.{Item, plain, over, lacking, Front, statement, bound, Content, scale, name, rule, is_name, is_comma, kind_word, term_spelled, terms_spelled, body_spelled, spelled, term_named, named, Shaped}
+use Rattle.text.specs.Shapes.{Item, plain, over, lacking, statement, bound, Content, scale, name, rule, is_name, is_comma, kind_word, term_spelled, terms_spelled, body_spelled, spelled, term_named, named, Shaped}
 use Rattle.text.specs.Tokens.{Spell, word, number, mark}
-use Rattle.text.specs.declared.tokens.Mark.{Mark}
 use Rattle.text.specs.declared.tokens.Mark.TheVariants.{Colon, Comma, Above, Not}
 use Rattle.text.specs.declared.sizes.ScaleKind.{ScaleKind}
 use Rattle.text.specs.declared.sizes.ScaleKind.TheVariants.{Luk, Godel, Hours}

@@ -1,15 +1,12 @@
 -- The number, place and layer of a fault.
 use Rattle.std.specs.Prelude.{ℕ}
 use Rattle.scale.specs.Refusals.{number_of as refusal-number}
-use Rattle.text.specs.declared.faults.TextFault.{TextFault}
 use Rattle.text.specs.declared.faults.TextFault.TheVariants.{TooLong, BadByte, LongNumber}
-use Rattle.text.specs.declared.faults.LineFault.{LineFault}
 use Rattle.text.specs.declared.faults.LineFault.TheVariants.{Text, Shape, Name}
 use Rattle.text.specs.declared.faults.ReadFault.{ReadFault}
 use Rattle.text.specs.declared.faults.ReadFault.TheVariants.{Line, Engine, NoMemory}
 use Rattle.text.specs.declared.faults.Layer.{Layer}
 use Rattle.text.specs.declared.faults.Layer.TheVariants.{Text as InText, Line as InLine, Engine as InEngine}
-use Rattle.text.specs.declared.faults.Place.{Place}
 
 abbrev pub number_of : ReadFault → ℕ
 number_of (Line (Text (TooLong p))) = 1

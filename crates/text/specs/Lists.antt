@@ -1,5 +1,5 @@
 -- Lists cut at separators, and a partial function on each element of a list.
-use Rattle.std.specs.Prelude.{Bool, cond, not, List, [], ◌∷◌, ◌++◌, Some, None, Option}
+use Rattle.std.specs.Prelude.{Bool, cond, not, List, [], ◌∷◌, Some, None, Option}
 
 -- what is no separator
 abbrev pub other : {A : Type 0} → (A → Bool) → A → Bool

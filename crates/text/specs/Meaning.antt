@@ -9,7 +9,7 @@ use Rattle.text.specs.Numerals.{capped}
 use Rattle.text.specs.Rows.{Row, lines_of, place_at}
 use Rattle.text.specs.Shapes.{Content, scale, name, rule, Shaped}
 use Rattle.text.specs.Sizes.{levels_of, size_refusal}
-use Rattle.text.specs.Tokens.{Tok, Spell, short, tokens_of}
+use Rattle.text.specs.Tokens.{Spell, short, tokens_of}
 use Rattle.text.specs.declared.drafts.ScaleSize.{ScaleSize}
 use Rattle.text.specs.declared.faults.Place.{Place}
 use Rattle.text.specs.declared.faults.TextFault.{TextFault}

@@ -4,6 +4,7 @@ use Rattle.text.specs.Meaning.{start, after, rows_read}
 use Rattle.text.specs.Rows.{lines_of}
 use Rattle.text.specs.Shapes.{Content, Shaped}
 use Rattle.text.specs.Tokens.{Spell}
+use Rattle.text.specs.declared.drafts.ScaleSize.{ScaleSize}
 use Rattle.text.specs.declared.faults.ReadFault.{ReadFault}
 use Rattle.text.specs.declared.reading.Named.{Named}
 use Rattle.text.specs.declared.reading.Reading.{Reading}
@@ -21,6 +22,10 @@ pub record Declares (text : List ℕ) (names : List (List ℕ)) : Type 0 where
 -- a text declares one list of names
 abbrev pub DeclaresOnce : List ℕ → Type 0
 DeclaresOnce text = (xs ys : List (List ℕ)) → Declares text xs → Declares text ys → xs ≡ ys
+
+-- what a text says of its scale, with so many names
+abbrev pub reading_of : ScaleSize → ℕ → Reading
+reading_of s statements = record { kind = s.kind; size = s.size; statements = statements }
 
 abbrev pub less_names : Result Named ReadFault → Result Reading ReadFault
 less_names (Ok n) = Ok n.reading

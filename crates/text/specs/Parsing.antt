@@ -2,7 +2,7 @@
 use Rattle.std.specs.Prelude.{ℕ, Bool, true, false, cond, List, [], ◌∷◌, Some, None, codes, Option}
 use Rattle.std.specs.Str.{bytes_eq}
 use Rattle.text.specs.Lists.{parted, traversed}
-use Rattle.text.specs.Shapes.{Item, plain, over, lacking, Front, statement, bound, Content, scale, name, rule, is_name, is_comma}
+use Rattle.text.specs.Shapes.{Item, plain, over, lacking, statement, bound, Content, scale, name, rule, is_name, is_comma}
 use Rattle.text.specs.Tokens.{Spell, word, number, mark}
 use Rattle.text.specs.declared.tokens.Mark.{Mark}
 use Rattle.text.specs.declared.tokens.Mark.TheVariants.{Colon, Comma, Above, Not}

@@ -1,5 +1,5 @@
 -- The lines of a text.
-use Rattle.std.specs.Prelude.{ℕ, suc, ◌+◌, Bool, List, [], ◌∷◌, length, take, count_by, ◌==◌}
+use Rattle.std.specs.Prelude.{ℕ, ◌+◌, Bool, List, [], ◌∷◌, length, take, count_by, ◌==◌}
 use Rattle.text.specs.Lists.{parted}
 use Rattle.text.specs.declared.faults.Place.{Place}
 

@@ -5,7 +5,7 @@ ghost use Rattle.book.specs.View.{ledger_of};
 ghost use Rattle.text.specs.Drafting.{state_of};
 ghost use Rattle.text.specs.Lists.{other};
 ghost use Rattle.text.specs.Meaning.{Did, rows_read, Reads, Once, fitting};
-ghost use Rattle.text.specs.Naming.{less_names, Declares, DeclaresOnce};
+ghost use Rattle.text.specs.Naming.{reading_of, less_names, Declares, DeclaresOnce};
 ghost use Rattle.text.specs.Parsing.{line_of};
 ghost use Rattle.text.specs.Rows.{ends_line, lines_of, place_at};
 
@@ -81,6 +81,17 @@ fn read_lines<'a>(heap: Global, text: &'a [u8], draft: &mut Draft<'a>) -> Result
     Ok(())
 }
 
+fn reading_of(scale: ScaleSize, names: &[&[u8]]) -> Reading
+    requires { length names.now ≤ 16 }
+    ensures { result ≡ reading_of scale (length names.now) }
+{
+    Reading {
+        kind: scale.kind,
+        size: scale.size,
+        statements: names.len() as u8,
+    }
+}
+
 // Fills the book with what the text says, in place of what it held; a refused text leaves it as it was.
 pub fn read_named<'a>(heap: Global, text: &'a [u8], book: &mut Book) -> Result<Named<'a>, ReadFault>
     ensures answer { Reads text.now (ledger_of book.old) (less_names result) (ledger_of book.new) }
@@ -102,17 +113,10 @@ pub fn read_named<'a>(heap: Global, text: &'a [u8], book: &mut Book) -> Result<N
     } = draft;
     match scale {
         None => Err(ReadFault::Line(LineFault::Shape(place_of(text, text.len())))),
-        Some(ScaleSize { kind, size }) => {
+        Some(scale) => {
             *book = fresh;
-            let statements = names.len() as u8;
-            Ok(Named {
-                reading: Reading {
-                    kind,
-                    size,
-                    statements,
-                },
-                names,
-            })
+            let reading = reading_of(scale, names.as_slice());
+            Ok(Named { reading, names })
         }
     }
 }

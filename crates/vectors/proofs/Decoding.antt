@@ -1,7 +1,7 @@
 -- Decoding goes on behind the bytes that are there.
 use Rattle.std.proofs.Common.{◌≡◌, ℕ, ◌≤◌, List, [], ◌∷◌, ◌++◌, length, get_or, drop, Some, None, Option, sym, refl, ap, ◌∙◌, arith}
 use Rattle.std.proofs.lemmas.List.{append_assoc}
-use Rattle.grammar.specs.Lists.{added}
+use Rattle.text.specs.Lists.{added}
 use Rattle.vectors.specs.Hex.{digit_value, byte_value, bytes_of}
 
 abbrev pub behind : List ℕ → Option (List ℕ) → Option (List ℕ)

@@ -1,6 +1,6 @@
 -- Bytes in hexadecimal: two digits each, the high one first.
 use Rattle.std.specs.Prelude.{ℕ, ◌+◌, ◌-◌, ◌*◌, cond, ◌&&◌, List, [], ◌∷◌, Some, None, Option, nat_le}
-use Rattle.grammar.specs.Lists.{added}
+use Rattle.text.specs.Lists.{added}
 
 -- 0 to 9, and a to f
 abbrev pub digit_value : ℕ → Option ℕ

@@ -1,4 +1,4 @@
-use Rattle.std.proofs.Common.{◌≡◌, map, Some, vec_items, sym, refl, ap, ◌∙◌, rules}
+use Rattle.std.proofs.Common.{map, Some, sym, ap, ◌∙◌, rules}
 use Rattle.std.proofs.lemmas.Result.{IfOk-weaker}
 use Rattle.std.proofs.lemmas.Bool.{cond-true}
 use Rattle.text.specs.Parsing.{body_of}

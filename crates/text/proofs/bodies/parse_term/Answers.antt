@@ -1,9 +1,9 @@
-use Rattle.std.proofs.Common.{◌≡◌, ℕ, ◌<◌, ◌≤◌, List, [], ◌∷◌, map, length, Some, None, Option, sym, refl, ap, ◌∙◌, arith, rules}
+use Rattle.std.proofs.Common.{◌≡◌, ℕ, ◌<◌, List, [], ◌∷◌, map, length, Some, None, Option, sym, refl, ap, ◌∙◌, arith, rules}
 use Rattle.std.specs.Option.{option_map}
 use Rattle.std.proofs.lemmas.Bool.{cond-true, cond-false}
 use Rattle.text.specs.Shapes.{Item, plain, over, lacking, seen_term}
-use Rattle.text.specs.Parsing.{then, term_of, name_of, number_of}
-use Rattle.text.specs.Tokens.{Spell, said}
+use Rattle.text.specs.Parsing.{then, term_of}
+use Rattle.text.specs.Tokens.{said}
 use Rattle.text.specs.declared.tokens.Token.{Token}
 use Rattle.text.proofs.Fixed.{nothing, one, two, three}
 use Rattle.text.proofs.bodies.parse_term.Goals as goal

@@ -1,8 +1,8 @@
-use Rattle.std.proofs.Common.{◌≡◌, ℕ, ◌+◌, ◌-◌, ◌<◌, ◌≤◌, List, [], ◌∷◌, map, length, take, drop, vec_items, sym, refl, ap, ◌∙◌, arith, rules}
+use Rattle.std.proofs.Common.{◌≡◌, ◌+◌, ◌-◌, ◌≤◌, List, ◌∷◌, map, length, take, drop, vec_items, sym, ap, ◌∙◌, arith, rules}
 use Rattle.std.specs.List.{prefix_len}
 use Rattle.std.proofs.lemmas.List.{take_rest, length-map, length-drop, take-map, drop-map, map_push}
 use Rattle.std.proofs.lemmas.List.Sums.{prefix_len-le-length}
-use Rattle.text.specs.Lists.{other, traversed, parted}
+use Rattle.text.specs.Lists.{other, traversed}
 use Rattle.text.specs.Parsing.{term_of}
 use Rattle.text.specs.Shapes.{is_comma, seen_term}
 use Rattle.text.specs.Tokens.{Spell, said}

@@ -1,4 +1,4 @@
-use Rattle.std.proofs.Common.{◌≡◌, ℕ, ◌+◌, true, false, not, map, length, get_or, drop, sym, refl, ap, ◌∙◌, arith}
+use Rattle.std.proofs.Common.{◌≡◌, ◌+◌, not, map, get_or, drop, sym, refl, ap, ◌∙◌, arith}
 use Rattle.std.specs.List.{prefix_len}
 use Rattle.std.proofs.lemmas.List.{at_drop_more, at_drop_all}
 use Rattle.std.proofs.lemmas.Bool.{cond-true, cond-false}
@@ -7,7 +7,6 @@ use Rattle.text.specs.Parsing.{is_mark}
 use Rattle.text.specs.Shapes.{is_comma}
 use Rattle.text.specs.Tokens.{Spell, word, number, mark, said}
 use Rattle.text.specs.declared.tokens.Mark.TheVariants.{Colon, Comma, Above, Not}
-use Rattle.text.specs.declared.tokens.Token.{Token}
 use Rattle.text.proofs.Fixed.{nothing}
 use Rattle.text.proofs.bodies.part_len.Goals as goal
 

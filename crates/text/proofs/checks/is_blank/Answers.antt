@@ -1,4 +1,3 @@
-use Rattle.std.proofs.Common.{sym}
 use Rattle.std.proofs.lemmas.Bool.{ne_eqb, eq-eqb}
 use Rattle.text.specs.Meaning.{is_space}
 use Rattle.book.proofs.Every.{fails_here, passes_here, passes_all}

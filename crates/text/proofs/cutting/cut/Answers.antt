@@ -1,9 +1,9 @@
-use Rattle.std.proofs.Common.{◌≡◌, ℕ, ◌+◌, ◌-◌, ◌<◌, ◌≤◌, true, false, [], ◌∷◌, ◌++◌, map, length, get_or, take, drop, vec_items, sym, ap, ◌∙◌, subst, arith, rules}
+use Rattle.std.proofs.Common.{◌≡◌, ◌+◌, ◌-◌, ◌≤◌, [], ◌∷◌, ◌++◌, map, length, take, drop, vec_items, sym, ap, ◌∙◌, arith, rules}
 use Rattle.std.specs.List.{prefix_len}
 use Rattle.std.proofs.lemmas.List.{map_push, length-drop, take_rest}
 use Rattle.std.proofs.lemmas.List.Sums.{prefix_len-le-length}
 use Rattle.text.specs.Bytes.{wordly}
-use Rattle.text.specs.Tokens.{seen, tokens_of, token, run_spell, mark}
+use Rattle.text.specs.Tokens.{seen, tokens_of, token, run_spell}
 use Rattle.text.proofs.Cuts.{some_run, word_more, mark_more, gap_more, cut_all}
 use Rattle.text.proofs.cutting.cut.Goals as goal
 use Rattle.text.proofs.cutting.cut.Goals.{After-word_len, in-Some+in_ok-push-2, in_default}

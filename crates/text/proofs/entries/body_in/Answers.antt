@@ -1,4 +1,4 @@
-use Rattle.std.proofs.Common.{◌≡◌, ◌+◌, List, [], ◌∷◌, ◌++◌, map, get_or, drop, Some, vec_items, sym, ap, ◌∙◌}
+use Rattle.std.proofs.Common.{◌+◌, map, get_or, drop, vec_items, sym, ap, ◌∙◌}
 use Rattle.text.proofs.Fixed.{no_term}
 use Rattle.std.proofs.lemmas.List.{at_drop_more, at_drop_all}
 use Rattle.text.specs.Entries.{literal_of}

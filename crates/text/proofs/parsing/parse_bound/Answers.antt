@@ -1,6 +1,6 @@
-use Rattle.std.proofs.Common.{◌≡◌, ℕ, ◌-◌, ◌<◌, List, [], ◌∷◌, map, length, get_or, take, drop, Some, None, vec_items, sym, refl, ap, ◌∙◌, arith, rules}
+use Rattle.std.proofs.Common.{◌≡◌, ◌-◌, ◌<◌, List, [], ◌∷◌, map, length, get_or, take, drop, Some, None, vec_items, sym, refl, ap, ◌∙◌, arith, rules}
 use Rattle.std.specs.Option.{option_map}
-use Rattle.text.specs.Parsing.{bound_line_of, then, name_of, number_of, body_of}
+use Rattle.text.specs.Parsing.{bound_line_of, then, number_of, body_of}
 use Rattle.text.specs.Shapes.{rule, bound, seen_term}
 use Rattle.text.specs.Tokens.{said}
 use Rattle.text.specs.declared.tokens.Token.{Token}

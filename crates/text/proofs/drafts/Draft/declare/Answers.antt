@@ -1,8 +1,7 @@
-use Rattle.std.proofs.Common.{◌≡◌, ℕ, ◌+◌, [], ◌∷◌, ◌++◌, map, length, is_some, None, Ok, Err, vec_items, Result, sym, refl, ap, ◌∙◌, ap₂, arith}
+use Rattle.std.proofs.Common.{◌≡◌, ◌+◌, [], ◌∷◌, ◌++◌, map, length, is_some, None, Ok, Err, vec_items, sym, ap, ◌∙◌, ap₂}
 use Rattle.std.proofs.lemmas.List.{length-map, map_push}
 use Rattle.std.proofs.lemmas.Result.{err_from_is_err_and}
 use Rattle.scale.specs.Causes.{answered, left}
-use Rattle.scale.specs.declared.refusal.Refusal.{Refusal}
 use Rattle.book.specs.Calls.{make_refusal, empty}
 use Rattle.book.specs.View.{ledger_of}
 use Rattle.text.specs.Drafting.{state_of, placed}

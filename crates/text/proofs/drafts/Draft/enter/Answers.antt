@@ -1,9 +1,8 @@
-use Rattle.std.proofs.Common.{◌≡◌, map, Some, None, Ok, vec_items, sym, refl, ap, ◌∙◌, ap₂}
+use Rattle.std.proofs.Common.{◌≡◌, map, Some, Ok, vec_items, sym, ap, ◌∙◌, ap₂}
 use Rattle.std.specs.Option.{option_map}
 use Rattle.scale.specs.Causes.{answered}
 use Rattle.book.specs.Calls.{enter_refusal, entered}
 use Rattle.book.specs.Ledger.{clause}
-use Rattle.book.specs.View.{ledger_of}
 use Rattle.text.specs.Drafting.{state_of, placed}
 use Rattle.text.specs.Entries.{head_of, literal_of, rule_of}
 use Rattle.text.specs.Lists.{traversed}

@@ -1,4 +1,4 @@
-use Rattle.std.proofs.Common.{◌≡◌, ℕ, List, map, Ok, Err, vec_items, Result, sym, refl, ap, ◌∙◌}
+use Rattle.std.proofs.Common.{◌≡◌, map, Ok, Err, vec_items, Result, sym, ap, ◌∙◌}
 use Rattle.std.specs.Option.{option_map}
 use Rattle.std.proofs.lemmas.Result.{err_from_is_err_and}
 use Rattle.text.specs.Drafting.{state_of}
@@ -6,9 +6,8 @@ use Rattle.text.specs.Meaning.{told, obeying, row_read}
 use Rattle.text.specs.Parsing.{line_of}
 use Rattle.text.specs.Rows.{row}
 use Rattle.text.specs.Shapes.{Content, seen_line}
-use Rattle.text.specs.Tokens.{said, seen}
+use Rattle.text.specs.Tokens.{said}
 use Rattle.text.specs.declared.faults.LineFault.{LineFault}
-use Rattle.text.specs.declared.faults.ReadFault.TheVariants.{Line}
 use Rattle.text.proofs.Obeying.{did_line, did_same, row_told}
 use Rattle.text.proofs.drafts.Draft.read_line.Goals as goal
 use Rattle.text.proofs.drafts.Draft.read_line.Goals.{After-check_line}
