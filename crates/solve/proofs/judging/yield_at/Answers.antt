@@ -22,7 +22,7 @@ returns g c =
     let rule = clause_of c.in_ok-rule.rule in
     let within : i < length rules = c.in_ok-rule.ensures.0 in
     let is : rule ≡ get_or rules i rule = c.in_ok-rule.ensures.1 in
-    let levels : m.levels ≡ book.levels = sym c.levels.ensures ∙ c.if-levels.false ∙ c.levels-count.ensures in
+    let levels : m.levels ≡ book.levels = sym c.levels.ensures ∙ c.if-levels-count.false ∙ c.levels-count.ensures in
     let size : length setting ≡ book.statements = c.if-setting-from.false ∙ c.from.ensures ∙ c.statements.ensures in
     let passed : every (λ d. ltb d book.levels) setting ≡ true =
     subst (λ (k : ℕ). every (λ d. ltb d k) setting ≡ true) c.levels-count.ensures (sym c.if-not-all_below.ensures) in
