@@ -1,13 +1,13 @@
 -- Going through all settings in the order of their positions.
-use Rattle.std.proofs.Common.{◌≡◌, ℕ, ◌+◌, ◌^◌, ◌<◌, ◌≤◌, ◌↔◌, List, length, sym, ap, ◌∙◌, subst, ⊎_elim, arith}
+use Rattle.std.proofs.Common.{◌≡◌, ℕ, ◌+◌, ◌^◌, ◌<◌, ◌≤◌, List, length, sym, ap, ◌∙◌, subst, ⊎_elim, arith}
 use Rattle.std.proofs.lemmas.Bool.{cases_lt}
 use Rattle.scale.specs.Meaning.{Meaning}
 use Rattle.book.specs.Ledger.{Clause}
-use Rattle.theory.specs.Equivalence.{Pair, SamePairs}
+use Rattle.theory.specs.Equivalence.{SamePairs}
 use Rattle.theory.specs.Position.{position}
-use Rattle.theory.specs.Semantics.{at, Setting}
+use Rattle.theory.specs.Semantics.{Setting}
 use Rattle.theory.proofs.Positions.{position_apart, position_fits}
-use Rattle.engine.specs.Differences.{Advanced, Holds, AgreeBelow, Agree}
+use Rattle.engine.specs.Differences.{Advanced, Agree}
 
 -- every setting before position p has the property
 abbrev pub Passed : Meaning → ℕ → ℕ → (List ℕ → Type 0) → Type 0

@@ -2,7 +2,7 @@
 use Rattle.std.specs.Prelude.{◌≡◌, ℕ, List, [], ◌∷◌, Some, None, Ok, Err, vec_items, Option, Result, Vec}
 use Rattle.std.specs.declared.alloc.Global.{Global}
 use Rattle.scale.specs.declared.refusal.Refusal.{Refusal}
-use Rattle.scale.specs.Causes.{answered, left, Answers}
+use Rattle.scale.specs.Causes.{answered, Answers}
 use Rattle.scale.specs.Meaning.{Meaning}
 use Rattle.book.specs.Calls.{empty, make_refusal, enter_refusal, entered, strike_refusal, struck, reweigh_refusal, reweighed}
 use Rattle.book.specs.Ledger.{Ledger, clause}

@@ -2,7 +2,7 @@
 ghost use Rattle.std.specs.Prelude.{◌≡◌, ◌+◌, ◌*◌, ◌≤◌, ◌++◌, map, length, take, drop};
 ghost use Rattle.book.specs.Rows.{clause_of};
 ghost use Rattle.theory.specs.Semantics.{at};
-ghost use Rattle.theory.specs.Equivalence.{facts, differing, chain, last_of, addendum as addendum-of};
+ghost use Rattle.theory.specs.Equivalence.{facts, differing, chain, last_of, addendum as addendum_of};
 
 use book::{Body, Head, Literal, Rule};
 
@@ -81,8 +81,8 @@ pub(crate) fn write_addendum(lower: &[u8], upper: &[u8], addendum: &mut [Rule]) 
     requires short { length lower.now ≤ 16 }
     requires same { length upper.now ≡ length lower.now }
     requires room { 2 * length lower.now ≤ length addendum.old }
-    ensures count { result ≡ length (addendum-of (length lower.now) lower.now upper.now) }
-    ensures written { map clause_of (take result addendum.new) ≡ addendum-of (length lower.now) lower.now upper.now }
+    ensures count { result ≡ length (addendum_of (length lower.now) lower.now upper.now) }
+    ensures written { map clause_of (take result addendum.new) ≡ addendum_of (length lower.now) lower.now upper.now }
     ensures rest { drop result addendum.new ≡ drop result addendum.old }
     ensures size { length addendum.new ≡ length addendum.old }
     ensures few { result ≤ 2 * length lower.now }

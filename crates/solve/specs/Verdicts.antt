@@ -30,7 +30,7 @@ yield_refusal m l i row =
     ∷ cause (not (length row == l.statements)) PlaceLength
     ∷ [])
 
--- d is how far rule i, which is there, demands its head at the setting; the default of `get_or` does not matter then
+-- d is how far rule i, which is there, demands its head at the setting; the default of `slice_index_or` does not matter then
 abbrev pub YieldAt : Meaning → List Clause → ℕ → List ℕ → ℕ → Type 0
 YieldAt m cs i row d = (none : Clause) → d ≡ yield m (at row) (at row) (slice_index_or cs i none)
 

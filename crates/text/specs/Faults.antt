@@ -1,6 +1,6 @@
 -- The number, place and layer of a fault.
 use Rattle.std.specs.Prelude.{ℕ}
-use Rattle.scale.specs.Refusals.{number_of as refusal-number}
+use Rattle.scale.specs.Refusals.{number_of as refusal_number}
 use Rattle.text.specs.declared.faults.TextFault.TheVariants.{TooLong, BadByte, LongNumber}
 use Rattle.text.specs.declared.faults.LineFault.TheVariants.{Text, Shape, Name}
 use Rattle.text.specs.declared.faults.ReadFault.{ReadFault}
@@ -14,7 +14,7 @@ number_of (Line (Text (BadByte p))) = 2
 number_of (Line (Text (LongNumber p))) = 3
 number_of (Line (Shape p)) = 4
 number_of (Line (Name p)) = 5
-number_of (Engine e p) = refusal-number e
+number_of (Engine e p) = refusal_number e
 number_of NoMemory = 0
 
 abbrev pub line_of : ReadFault → ℕ

@@ -1,4 +1,4 @@
-use Rattle.std.proofs.Common.{◌-◌, ◌∙◌}
+use Rattle.std.proofs.Common.{◌∙◌}
 use Rattle.std.proofs.lemmas.List.{length-set}
 use Rattle.engine.proofs.Odometer.{carrying_starts, carry_spent, carry_on, advanced}
 use Rattle.engine.proofs.pairs.advance.Goals as goal
