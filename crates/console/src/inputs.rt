@@ -3,13 +3,13 @@ use anyhow::anyhow;
 use std::fs::File;
 use std::io::Read;
 
-// One byte more than a text may have: what is longer is refused, so the rest of it need not be read.
+// One byte more than a text may have: a longer file is refused, so the rest of it need not be read.
 const ENOUGH: u64 = 8193;
 
-// What standard input has.
+// What standard input has, to its end.
 pub fn read_input(rt: &HostRuntime) -> anyhow::Result<Vec<u8>> {
     let mut bytes = Vec::new(rt.alloc());
-    rt.stdin().take(ENOUGH).read_to_end(&mut bytes)?;
+    rt.stdin().read_to_end(&mut bytes)?;
     Ok(bytes)
 }
 

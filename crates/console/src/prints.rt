@@ -76,7 +76,8 @@ pub fn print_fault(rt: &HostRuntime, source: &str, fault: ReadFault) -> anyhow::
     }
     let line = fault.line();
     print_refused(rt, fault.number(), line, fault.byte())?;
-    eprintln!(rt; "{source}, line {line}: {words}")?;
+    // The answer stands on standard output; that its meaning could not be told besides is no failure.
+    let _ = eprintln!(rt; "{source}, line {line}: {words}");
     Ok(())
 }
 
@@ -87,7 +88,7 @@ pub fn finish(rt: &HostRuntime, work: Result<(), Stop>) -> anyhow::Result<()> {
         Err(Stop::Refused(refusal)) => {
             print_refused(rt, refusal.number(), 0, 0)?;
             let words = refusal_words(refusal);
-            eprintln!(rt; "{words}")?;
+            let _ = eprintln!(rt; "{words}");
             Ok(())
         }
         Err(Stop::Failed(error)) => Err(error),

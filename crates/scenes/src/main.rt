@@ -3,13 +3,11 @@
 // what it means.
 #![tactic(auto)]
 
-use anyhow::anyhow;
 use book::Book;
 use console::{Stop, end, finish, print_fault, print_line, read_input};
 use output::Line;
 use scale::{Godel, Hours, Luk, Scale};
 use solve::seek;
-use std::env;
 use text::{Reading, ScaleKind, read};
 
 // The most statements that a book may have.
@@ -52,9 +50,6 @@ fn print_book(rt: &HostRuntime, reading: &Reading, book: &Book) -> Result<(), St
 }
 
 fn run(rt: &HostRuntime) -> anyhow::Result<()> {
-    if env::args(rt)?.count() > 1 {
-        return Err(anyhow!("usage: scenes < BOOK"));
-    }
     let text = read_input(rt)?;
     let mut book = Book::new(rt.alloc())?;
     match read(rt.alloc(), text.as_slice(), &mut book) {
