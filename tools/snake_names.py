@@ -14,6 +14,9 @@ import re
 
 WORDS = {"length", "append"}
 OLDER = {"All": "AllByRecursion", "Has": "ContainsAt"}
+# a bound variable that port.py takes for a word of the library
+MISTAKEN = {"type_size": "size_of"}
+ALIAS = re.compile(r"(?<= as )[a-z]+(?:-[a-z]+)+")
 SIGNATURE = re.compile(r"^\s*((?:abbrev |unfoldable |pub |record |data |infixl |infixr )*)([^\s(){}:=|,;]+)((?:\s+[({].*?[)}])*)\s+:\s+(.*)$")
 MADE = re.compile(r"\bgoal\.(\S+)$")
 TOKEN = re.compile(r"[\w'·⊑◌-]+")
@@ -52,6 +55,8 @@ def respelled(path, text):
         for old, new in OLDER.items():
             line = line.replace(f"{new} as {old}", new)
             line = re.sub(rf"(?<![\w'.-]){old}(?![\w'-])", new, line)
+        for old, new in MISTAKEN.items():
+            line = re.sub(rf"\b{old}\b", new, line)
         if path.endswith(".rt") and "crates/scale/" not in path and re.search("ensures|requires", line):
             line = re.sub(r"(?<![\w.])meaning\b", "S.meaning", line)
         lines[k] = line
@@ -69,6 +74,9 @@ def main():
             turned[name] = "".join(part[0].upper() + part[1:] for part in name.split("-"))
         elif not joined(name, names):
             turned[name] = name.replace("-", "_")
+    for path in proofs + sources:
+        for alias in ALIAS.findall(open(path, encoding="utf-8").read()):
+            turned[alias] = alias.replace("-", "_")
     for name in [n for n in turned if turned[n] in types | others | made]:
         print(f"kept: {name}, since {turned.pop(name)} is declared")
     texts = {p: open(p, encoding="utf-8").read() for p in proofs + sources}
