@@ -2,7 +2,8 @@
 use Rattle.std.proofs.Common.{◌≡◌, ℕ, zero, suc, ◌<◌, true, ◌&&◌, ltb, List, [], ◌∷◌, map, length, get_or, set, sym, refl, ap, subst, ⊎_elim, le_of_suc-le-suc, not-suc-le-zero, arith}
 use Rattle.std.proofs.lemmas.Bool.{lt-ltb, and_parts, and_from, cases_eq}
 use Rattle.std.proofs.lemmas.List.{get_or-set_same, get_or-set_other}
-use Rattle.book.specs.Ledger.{known, fits, head_fits, every, literal_fits}
+use Rattle.book.specs.Ledger.{known, fits, head_fits, literal_fits}
+use Rattle.std.specs.List.{list_all}
 use Rattle.book.specs.Calls.{weight_changed}
 use Rattle.book.specs.Rows.{kept, clause_of, literals_of, row_reweighed}
 use Rattle.book.specs.declared.rows.Rule.{Rule}
@@ -15,7 +16,7 @@ blank = record { head = Statement 0; weight = 0; body = record { literals = []; 
 pub kept_reweighed : (levels statements weight : ℕ) (r : Rule) → weight < levels → kept levels statements r ≡ true → kept levels statements (row_reweighed weight r) ≡ true
 kept_reweighed levels statements weight r h k =
     let parts = and_parts (known statements (clause_of r)) (fits levels (clause_of r)) k in
-    let rest = head_fits levels r.head && every (literal_fits levels) (literals_of r.body) in
+    let rest = head_fits levels r.head && list_all (literal_fits levels) (literals_of r.body) in
     and_from _ _ parts.0 (and_from _ _ (lt-ltb weight levels h) (and_parts (ltb r.weight levels) rest parts.1).1)
 
 pub rows_kept : (levels statements weight i : ℕ) (rows : List Rule) → weight < levels → i < length rows → ((k : ℕ) (d : Rule) → k < length rows → kept levels statements (get_or rows k d) ≡ true) → (k : ℕ) (d : Rule) → k < length rows → kept levels statements (get_or (set rows i (row_reweighed weight (get_or rows i d))) k d) ≡ true

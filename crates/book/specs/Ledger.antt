@@ -1,5 +1,6 @@
 -- A rule book as its reader sees it: the ledger. And which rules it may hold.
-use Rattle.std.specs.Prelude.{◌≡◌, ℕ, Bool, true, ◌&&◌, List, [], ◌∷◌, length, nat_le, nat_lt}
+use Rattle.std.specs.Prelude.{◌≡◌, ℕ, Bool, true, ◌&&◌, List, length, nat_le, nat_lt}
+use Rattle.std.specs.List.{list_all}
 use Rattle.book.specs.declared.rule.Head.{Head}
 use Rattle.book.specs.declared.rule.Head.TheVariants.{Statement, Bound}
 use Rattle.book.specs.declared.rule.Literal.{Literal}
@@ -20,11 +21,6 @@ pub record Ledger : Type 0 where
   pub statements : ℕ
   pub rules : List Clause
 
--- every element passes a test
-abbrev pub every : {A : Type 0} → (A → Bool) → List A → Bool
-every f [] = true
-every f (x ∷ xs) = f x && every f xs
-
 abbrev pub head_known : ℕ → Head → Bool
 head_known statements (Statement s) = nat_lt s statements
 head_known statements (Bound d) = true
@@ -36,7 +32,7 @@ literal_known statements (Lacking s) = nat_lt s statements
 
 -- the rule names only statements that there are
 abbrev pub known : ℕ → Clause → Bool
-known statements c = head_known statements c.head && every (literal_known statements) c.body
+known statements c = head_known statements c.head && list_all (literal_known statements) c.body
 
 abbrev pub head_fits : ℕ → Head → Bool
 head_fits levels (Statement s) = true
@@ -49,7 +45,7 @@ literal_fits levels (Lacking s) = true
 
 -- the rule has only degrees that there are
 abbrev pub fits : ℕ → Clause → Bool
-fits levels c = nat_lt c.weight levels && (head_fits levels c.head && every (literal_fits levels) c.body)
+fits levels c = nat_lt c.weight levels && (head_fits levels c.head && list_all (literal_fits levels) c.body)
 
 -- A rule is lawful on some levels and statements if it keeps within them and has at most 4 literals.
 pub record Lawful (levels statements : ℕ) (c : Clause) : Type 0 where

@@ -1,7 +1,8 @@
 // The calls on a book. Each tests its causes of refusal in order; a refusal changes nothing.
 ghost use Rattle.std.specs.Prelude.{◌≡◌, IfOk};
 ghost use Rattle.scale.specs.Causes.{answered};
-ghost use Rattle.book.specs.Ledger.{clause, every, literal_known, literal_fits};
+ghost use Rattle.book.specs.Ledger.{clause, literal_known, literal_fits};
+ghost use Rattle.std.specs.List.{list_all};
 ghost use Rattle.book.specs.Calls.{empty, make_refusal, remade, enter_refusal, entered, strike_refusal, struck, reweigh_refusal, reweighed};
 ghost use Rattle.book.specs.Admission.{Admitted};
 ghost use Rattle.book.specs.View.{ledger_of};
@@ -111,7 +112,7 @@ impl Book {
 
 // Does every literal name only statements below `statements`?
 fn all_known(body: &[Literal], statements: u8) -> bool
-    ensures { result ≡ every (literal_known statements) body.now }
+    ensures { result ≡ list_all (literal_known statements) body.now }
 {
     for literal in body {
         if !literal.known(statements) {
@@ -123,7 +124,7 @@ fn all_known(body: &[Literal], statements: u8) -> bool
 
 // Has every literal only degrees below `levels`?
 fn all_fit(body: &[Literal], levels: u8) -> bool
-    ensures { result ≡ every (literal_fits levels) body.now }
+    ensures { result ≡ list_all (literal_fits levels) body.now }
 {
     for literal in body {
         if !literal.fits(levels) {

@@ -2,7 +2,8 @@
 use Rattle.std.proofs.Common.{◌≡◌, ℕ, zero, suc, Bool, true, false, ◌&&◌, ◌↔◌, List, [], ◌∷◌, length, sym, refl, ◌∙◌, arith}
 use Rattle.std.proofs.lemmas.Bool.{and_parts, and_from, false≢true}
 use Rattle.scale.specs.Meaning.{Meaning, Laws}
-use Rattle.book.specs.Ledger.{Clause, Lawful, every}
+use Rattle.book.specs.Ledger.{Clause, Lawful}
+use Rattle.std.specs.List.{list_all}
 use Rattle.book.specs.declared.rule.Head.TheVariants.{Statement, Bound}
 use Rattle.theory.specs.AnswerSet.{Under}
 use Rattle.theory.specs.Equivalence.{Pair, SamePairs, StronglyEquivalent}
@@ -57,17 +58,17 @@ module _ (m : Meaning) where
 
     -- of two rows, one under the other, whether they are a pair of the rules
     abbrev is_pair : List Clause → Bool
-    is_pair cs = every (holds m (at upper) (at upper)) cs && every statement_holds cs
+    is_pair cs = list_all (holds m (at upper) (at upper)) cs && list_all statement_holds cs
 
     pair_passes : {n : ℕ} (cs : List Clause) → Pair m n cs lower upper → is_pair cs ≡ true
     pair_passes cs p =
-        and_from (every (holds m (at upper) (at upper)) cs) (every statement_holds cs)
+        and_from (list_all (holds m (at upper) (at upper)) cs) (list_all statement_holds cs)
         ((every_decides (holds m (at upper) (at upper)) (λ c. (λ h. h, λ h. h)) cs).1 p.satisfied)
         ((every_decides statement_holds statement_decides cs).1 p.kept)
 
     passes_pair : {n : ℕ} (cs : List Clause) → Setting m n lower → Setting m n upper → Under m lower upper → is_pair cs ≡ true → Pair m n cs lower upper
     passes_pair cs here there under e =
-        let parts = and_parts (every (holds m (at upper) (at upper)) cs) (every statement_holds cs) e in
+        let parts = and_parts (list_all (holds m (at upper) (at upper)) cs) (list_all statement_holds cs) e in
         record {
           here = here;
           there = there;

@@ -2,7 +2,8 @@
 use Rattle.std.proofs.Common.{◌≡◌, ℕ, Bool, true, not, ◌&&◌, eqb, ltb, leb, ◌↔◌, List, [], ◌∷◌, length}
 use Rattle.std.proofs.lemmas.Bool.{and_parts, and_from, not-true, both_ways, eqb-true, ltb-true}
 use Rattle.scale.specs.Meaning.{Meaning, Laws}
-use Rattle.book.specs.Ledger.{Clause, Lawful, every, known, fits}
+use Rattle.book.specs.Ledger.{Clause, Lawful, known, fits}
+use Rattle.std.specs.List.{list_all}
 use Rattle.theory.specs.Semantics.{AllByRecursion, Setting}
 use Rattle.solve.proofs.Books.{degrees_from}
 use Rattle.cases.specs.Claims.{Claim, scenes_at, verdict_on, equivalent_to, not_equivalent_to, Case, LawfulOn, Says, Holds}
@@ -11,7 +12,7 @@ use Rattle.cases.proofs.Judging.{is_judged, judged, scenes_listed, scenes_exactl
 use Rattle.cases.proofs.Sweeps.{every_decides}
 
 abbrev is_setting : Meaning → ℕ → List ℕ → Bool
-is_setting m n row = ltb 0 m.levels && (eqb (length row) n && every (λ d. ltb d m.levels) row)
+is_setting m n row = ltb 0 m.levels && (eqb (length row) n && list_all (λ d. ltb d m.levels) row)
 
 setting_from : (m : Meaning) (n : ℕ) (row : List ℕ) → is_setting m n row ≡ true → Setting m n row
 setting_from m n row e =
@@ -32,14 +33,14 @@ module _ (c : Case) where
     λ l. and_from (known c.statements r) _ l.knows (and_from (fits c.scale.levels r) _ l.degrees l.short),
   )
 
-  lawful_from : (rules : List Clause) → every is_lawful rules ≡ true → LawfulOn c rules
+  lawful_from : (rules : List Clause) → list_all is_lawful rules ≡ true → LawfulOn c rules
   lawful_from rules = (every_decides is_lawful lawful_decides rules).0
 
   abbrev is_so : Claim → Bool
   is_so (scenes_at positions) = scenes_listed c.scale c.rules c.statements positions
   is_so (verdict_on row verdict) = is_setting c.scale c.statements row && is_judged c.scale c.rules c.statements row verdict
-  is_so (equivalent_to others) = every is_lawful others && pairs_alike c.scale c.statements c.rules others
-  is_so (not_equivalent_to others) = every is_lawful others && not (pairs_alike c.scale c.statements c.rules others)
+  is_so (equivalent_to others) = list_all is_lawful others && pairs_alike c.scale c.statements c.rules others
+  is_so (not_equivalent_to others) = list_all is_lawful others && not (pairs_alike c.scale c.statements c.rules others)
 
   -- only strong equivalence is decided by the laws
   abbrev Grounds : Claim → Type 0
@@ -54,25 +55,25 @@ module _ (c : Case) where
       let parts = and_parts (is_setting c.scale c.statements row) _ e in
       (setting_from c.scale c.statements row parts.0, judged c.scale c.rules c.statements row verdict parts.1)
   says lawful (equivalent_to others) laws e =
-      let parts = and_parts (every is_lawful others) _ e in
+      let parts = and_parts (list_all is_lawful others) _ e in
       let too = lawful_from others parts.0 in
       (too, (pairs_decide c.scale c.statements c.rules others laws lawful too).0 parts.1)
   says lawful (not_equivalent_to others) laws e =
-      let parts = and_parts (every is_lawful others) _ e in
+      let parts = and_parts (list_all is_lawful others) _ e in
       let too = lawful_from others parts.0 in
       (too, λ equivalent. both_ways (pairs_alike c.scale c.statements c.rules others) (not-true _ parts.1) ((pairs_decide c.scale c.statements c.rules others laws lawful too).1 equivalent))
 
-  all_say : LawfulOn c c.rules → (claims : List Claim) → AllByRecursion Grounds claims → every is_so claims ≡ true → AllByRecursion (Says c) claims
+  all_say : LawfulOn c c.rules → (claims : List Claim) → AllByRecursion Grounds claims → list_all is_so claims ≡ true → AllByRecursion (Says c) claims
   all_say lawful [] grounds e = tt
   all_say lawful (claim ∷ claims) grounds e =
-      let parts = and_parts (is_so claim) (every is_so claims) e in
+      let parts = and_parts (is_so claim) (list_all is_so claims) e in
       (says lawful claim grounds.0 parts.0, all_say lawful claims grounds.1 parts.1)
 
   abbrev pub passes : Bool
-  passes = every is_lawful c.rules && every is_so c.claims
+  passes = list_all is_lawful c.rules && list_all is_so c.claims
 
   pub holds : AllByRecursion Grounds c.claims → passes ≡ true → Holds c
   holds grounds e =
-      let parts = and_parts (every is_lawful c.rules) (every is_so c.claims) e in
+      let parts = and_parts (list_all is_lawful c.rules) (list_all is_so c.claims) e in
       let lawful = lawful_from c.rules parts.0 in
       record { lawful = lawful; claimed = all_say lawful c.claims grounds parts.1 }

@@ -5,7 +5,8 @@ use Rattle.std.specs.Str.{bytes_eq}
 use Rattle.std.proofs.lemmas.Slice.Eq.{bytes_eq-Decides}
 use Rattle.std.proofs.lemmas.Bool.{and_parts, and_from, or_cases, or_left, or_right, not-true, both_ways, cases_Bool, cases_eq, eq-eqb, eqb-true, eqb-false, ltb-true, false≢true}
 use Rattle.scale.specs.Meaning.{Meaning}
-use Rattle.book.specs.Ledger.{Clause, every}
+use Rattle.book.specs.Ledger.{Clause}
+use Rattle.std.specs.List.{list_all}
 use Rattle.book.specs.declared.rule.Head.TheVariants.{Statement, Bound}
 use Rattle.theory.specs.Position.{position}
 use Rattle.theory.specs.Semantics.{at, Setting, body_value, head_value, holds, raise, raised, Rounds, BoundHolds, SceneAfter, Scene}
@@ -94,7 +95,7 @@ module _ (m : Meaning) (cs : List Clause) (n : ℕ) (row : List ℕ) where
 
   -- the row is the least one under itself, and the bounds hold there
   abbrev is_scene : List ℕ → Bool
-  is_scene low = bytes_eq low row && every bound_holds cs
+  is_scene low = bytes_eq low row && list_all bound_holds cs
 
   scene_after : (r : ℕ) → Rounds m cs n row r → (is_scene (raised m cs n row r) ≡ true) ↔ SceneAfter m cs n row r
   scene_after r rounds =
@@ -102,9 +103,9 @@ module _ (m : Meaning) (cs : List Clause) (n : ℕ) (row : List ℕ) where
       let same = bytes_eq-Decides low row in
       let bounds = every_decides bound_holds bound_decides cs in (
         λ e.
-            let parts = and_parts (bytes_eq low row) (every bound_holds cs) e in
+            let parts = and_parts (bytes_eq low row) (list_all bound_holds cs) e in
             record { rounds = rounds; least = same.0 parts.0; bounds = bounds.0 parts.1 },
-        λ s. and_from (bytes_eq low row) (every bound_holds cs) (same.1 s.least) (bounds.1 s.bounds),
+        λ s. and_from (bytes_eq low row) (list_all bound_holds cs) (same.1 s.least) (bounds.1 s.bounds),
       )
 
   abbrev is_broken : List Clause → ℕ → ℕ → Bool
@@ -131,13 +132,13 @@ module _ (m : Meaning) (cs : List Clause) (n : ℕ) (row : List ℕ) where
 
   abbrev is_unsupported : ℕ → ℕ → List ℕ → Bool
   is_unsupported s d low =
-      every (holds m (at row) (at row)) cs
+      list_all (holds m (at row) (at row)) cs
       && (ltb s n && (eqb d (at low s) && (not (eqb d (at row s)) && every_below s (λ k. eqb (at low k) (at row k)))))
 
   unsupported : (s d r : ℕ) → Rounds m cs n row r → is_unsupported s d (raised m cs n row r) ≡ true → FirstUnsupported m cs n row s d
   unsupported s d r rounds e =
       let low = raised m cs n row r in
-      let all = and_parts (every (holds m (at row) (at row)) cs) _ e in
+      let all = and_parts (list_all (holds m (at row) (at row)) cs) _ e in
       let there = and_parts (ltb s n) _ all.1 in
       let degree = and_parts (eqb d (at low s)) _ there.1 in
       let differs = and_parts (not (eqb d (at row s))) _ degree.1 in

@@ -1,16 +1,16 @@
 -- Tests over every element of a list, every number below one, and every row of degrees: passed where each one passes.
 use Rattle.std.proofs.Common.{◌≡◌, ℕ, zero, suc, ◌<◌, Bool, true, false, not, ◌&&◌, ◌↔◌, List, [], ◌∷◌, length, refl, ap, inl, inr, arith}
 use Rattle.std.proofs.lemmas.Bool.{and_parts, and_from, cases_eq, false≢true}
-use Rattle.book.specs.Ledger.{every}
+use Rattle.std.specs.List.{list_all}
 use Rattle.theory.specs.Semantics.{at, AllByRecursion}
 
 -- a test that decides of each element what P says decides it of all
-pub every_decides : {A : Type 0} {P : A → Type 0} (f : A → Bool) → ((x : A) → (f x ≡ true) ↔ P x) → (xs : List A) → (every f xs ≡ true) ↔ AllByRecursion P xs
+pub every_decides : {A : Type 0} {P : A → Type 0} (f : A → Bool) → ((x : A) → (f x ≡ true) ↔ P x) → (xs : List A) → (list_all f xs ≡ true) ↔ AllByRecursion P xs
 every_decides f each [] = (λ e. tt, λ h. refl)
 every_decides f each (x ∷ xs) =
     let rest = every_decides f each xs in (
-      λ e. let parts = and_parts (f x) (every f xs) e in ((each x).0 parts.0, rest.0 parts.1),
-      λ h. and_from (f x) (every f xs) ((each x).1 h.0) (rest.1 h.1),
+      λ e. let parts = and_parts (f x) (list_all f xs) e in ((each x).0 parts.0, rest.0 parts.1),
+      λ h. and_from (f x) (list_all f xs) ((each x).1 h.0) (rest.1 h.1),
     )
 
 abbrev pub every_below : ℕ → (ℕ → Bool) → Bool

@@ -3,7 +3,8 @@ use Rattle.std.proofs.Common.{◌≡◌, ℕ, ◌<◌, true, ltb, List, map, len
 use Rattle.std.proofs.lemmas.List.{get_or_past}
 use Rattle.std.proofs.lemmas.Bool.{cases_lt, ltb-true}
 use Rattle.scale.specs.Meaning.{Meaning}
-use Rattle.book.specs.Ledger.{Clause, Lawful, every}
+use Rattle.book.specs.Ledger.{Clause, Lawful}
+use Rattle.std.specs.List.{list_all}
 use Rattle.book.specs.Rows.{clause_of}
 use Rattle.book.specs.View.{ledger_of}
 use Rattle.book.specs.declared.books.Book.{Book}
@@ -14,7 +15,7 @@ use Rattle.theory.specs.Semantics.{AllByRecursion, at}
 use Rattle.theory.proofs.Lists.{all_from_map}
 use Rattle.solve.specs.Ready.{Rules}
 
-pub degrees_from : (levels : ℕ) (row : List ℕ) → 0 < levels → every (λ d. ltb d levels) row ≡ true → (s : ℕ) → at row s < levels
+pub degrees_from : (levels : ℕ) (row : List ℕ) → 0 < levels → list_all (λ d. ltb d levels) row ≡ true → (s : ℕ) → at row s < levels
 degrees_from levels row some passed s =
     ⊎_elim (λ h. ltb-true (at row s) levels (every_at (λ d. ltb d levels) row s 0 passed h)) (λ h. subst (λ (x : ℕ). x < levels) (sym (get_or_past row s 0 h)) some)
     (cases_lt s (length row))

@@ -3,7 +3,8 @@ use Rattle.std.proofs.Common.{◌≡◌, ℕ, ◌<◌, true, ◌&&◌, ltb, List
 use Rattle.std.proofs.ByRecursion.{All-get_or, All-map, All-drop}
 use Rattle.std.proofs.lemmas.Bool.{and_parts, ltb-true}
 use Rattle.scale.specs.Meaning.{Meaning, Laws}
-use Rattle.book.specs.Ledger.{Clause, Lawful, fits, head_fits, every, literal_fits}
+use Rattle.book.specs.Ledger.{Clause, Lawful, fits, head_fits, literal_fits}
+use Rattle.std.specs.List.{list_all}
 use Rattle.book.specs.Rows.{clause_of}
 use Rattle.book.specs.declared.rows.Rule.{Rule}
 use Rattle.book.specs.declared.rule.Head.{Head}
@@ -13,7 +14,7 @@ use Rattle.theory.proofs.Ranges.{Within, Degrees, all_within, gain_degree}
 use Rattle.solve.specs.Ready.{Rules}
 
 pub fits_weight : (levels : ℕ) (c : Clause) → fits levels c ≡ true → c.weight < levels
-fits_weight levels c e = ltb-true c.weight levels (and_parts (ltb c.weight levels) (head_fits levels c.head && every (literal_fits levels) c.body) e).0
+fits_weight levels c e = ltb-true c.weight levels (and_parts (ltb c.weight levels) (head_fits levels c.head && list_all (literal_fits levels) c.body) e).0
 
 head_degree : (m : Meaning) {l : ℕ → ℕ} → Degrees m l → (h : Head) → head_fits m.levels h ≡ true → head_value l h < m.levels
 head_degree m dl (Statement s) e = dl s
@@ -21,13 +22,13 @@ head_degree m dl (Bound d) e = ltb-true d m.levels e
 
 pub fits_head : (m : Meaning) {l : ℕ → ℕ} → Degrees m l → (c : Clause) → fits m.levels c ≡ true → head_value l c.head < m.levels
 fits_head m dl c e =
-    let rest = (and_parts (ltb c.weight m.levels) (head_fits m.levels c.head && every (literal_fits m.levels) c.body) e).1 in
-    head_degree m dl c.head (and_parts (head_fits m.levels c.head) (every (literal_fits m.levels) c.body) rest).0
+    let rest = (and_parts (ltb c.weight m.levels) (head_fits m.levels c.head && list_all (literal_fits m.levels) c.body) e).1 in
+    head_degree m dl c.head (and_parts (head_fits m.levels c.head) (list_all (literal_fits m.levels) c.body) rest).0
 
-pub fits_body : (levels : ℕ) (c : Clause) → fits levels c ≡ true → every (literal_fits levels) c.body ≡ true
+pub fits_body : (levels : ℕ) (c : Clause) → fits levels c ≡ true → list_all (literal_fits levels) c.body ≡ true
 fits_body levels c e =
-    let rest = (and_parts (ltb c.weight levels) (head_fits levels c.head && every (literal_fits levels) c.body) e).1 in
-    (and_parts (head_fits levels c.head) (every (literal_fits levels) c.body) rest).1
+    let rest = (and_parts (ltb c.weight levels) (head_fits levels c.head && list_all (literal_fits levels) c.body) e).1 in
+    (and_parts (head_fits levels c.head) (list_all (literal_fits levels) c.body) rest).1
 
 -- what the rows of a table demand of a statement
 abbrev pub gains : Meaning → (ℕ → ℕ) → (ℕ → ℕ) → ℕ → List Rule → ℕ

@@ -4,7 +4,8 @@ use Rattle.scale.specs.declared.refusal.Refusal.{Refusal}
 use Rattle.scale.specs.declared.refusal.Refusal.TheVariants.{DegreeTooHigh, NoSuchRule, LevelsDiffer, PlaceLength}
 use Rattle.scale.specs.Causes.{cause, first_met}
 use Rattle.scale.specs.Meaning.{Meaning}
-use Rattle.book.specs.Ledger.{Clause, Ledger, every}
+use Rattle.book.specs.Ledger.{Clause, Ledger}
+use Rattle.std.specs.List.{list_all}
 use Rattle.book.specs.Rows.{clause_of}
 use Rattle.book.specs.declared.rows.Rule.{Rule}
 use Rattle.theory.specs.Semantics.{at, AllByRecursion, holds, yield, body_value, head_value, raised, Rounds, SceneAfter}
@@ -15,7 +16,7 @@ use Rattle.solve.specs.declared.judging.Verdict.TheVariants.{Scene, Broken, Unsu
 abbrev pub check_refusal : Meaning → Ledger → List ℕ → Option Refusal
 check_refusal m l row =
     first_met
-    (cause (not (every (λ d. nat_lt d l.levels) row)) DegreeTooHigh
+    (cause (not (list_all (λ d. nat_lt d l.levels) row)) DegreeTooHigh
     ∷ cause (not (m.levels == l.levels)) LevelsDiffer
     ∷ cause (not (length row == l.statements)) PlaceLength
     ∷ [])
@@ -24,7 +25,7 @@ check_refusal m l row =
 abbrev pub yield_refusal : Meaning → Ledger → ℕ → List ℕ → Option Refusal
 yield_refusal m l i row =
     first_met
-    (cause (not (every (λ d. nat_lt d l.levels) row)) DegreeTooHigh
+    (cause (not (list_all (λ d. nat_lt d l.levels) row)) DegreeTooHigh
     ∷ cause (nat_le (length l.rules) i) NoSuchRule
     ∷ cause (not (m.levels == l.levels)) LevelsDiffer
     ∷ cause (not (length row == l.statements)) PlaceLength

@@ -1,7 +1,8 @@
 // Judging a setting.
 ghost use Rattle.std.specs.Prelude.{◌≡◌, ◌≤◌, true, map, length, nat_lt};
 ghost use Rattle.scale.specs.Causes.{Answers};
-ghost use Rattle.book.specs.Ledger.{every, fits};
+ghost use Rattle.book.specs.Ledger.{fits};
+ghost use Rattle.std.specs.List.{list_all};
 ghost use Rattle.book.specs.Rows.{clause_of};
 ghost use Rattle.book.specs.View.{ledger_of};
 ghost use Rattle.theory.specs.Semantics.{at, body_value, head_value};
@@ -46,7 +47,7 @@ fn residuum_of<S: Scale>(scale: &S, rule: &Rule, row: &[u8]) -> u8
 
 // Is every degree below `levels`?
 fn all_below(row: &[u8], levels: u8) -> bool
-    ensures { result ≡ every (λ d. nat_lt d levels) row.now }
+    ensures { result ≡ list_all (λ d. nat_lt d levels) row.now }
 {
     for degree in row {
         if *degree >= levels {

@@ -1,7 +1,8 @@
 // What literals, bodies and rules are worth at a lower and an upper row of degrees.
 ghost use Rattle.std.specs.Prelude.{◌≡◌, ◌<◌, true, map, length};
 ghost use Rattle.scale.specs.Meaning.{top};
-ghost use Rattle.book.specs.Ledger.{every, literal_fits, fits};
+ghost use Rattle.book.specs.Ledger.{literal_fits, fits};
+ghost use Rattle.std.specs.List.{list_all};
 ghost use Rattle.book.specs.Rows.{clause_of};
 ghost use Rattle.theory.specs.Semantics.{at, value, body_value, yield, holds, head_value, share, gain};
 ghost use Rattle.solve.specs.Ready.{Degrees, Rules};
@@ -49,7 +50,7 @@ pub(crate) fn times_body<S: Scale>(
     lower: &[u8],
     upper: &[u8],
 ) -> u8
-    ensures { Degrees (S.meaning scale.now) lower.now → Degrees (S.meaning scale.now) upper.now → start < (S.meaning scale.now).levels → every (literal_fits (S.meaning scale.now).levels) body.now ≡ true → result ≡ (S.meaning scale.now).product start (body_value (S.meaning scale.now) (at lower.now) (at upper.now) body.now) }
+    ensures { Degrees (S.meaning scale.now) lower.now → Degrees (S.meaning scale.now) upper.now → start < (S.meaning scale.now).levels → list_all (literal_fits (S.meaning scale.now).levels) body.now ≡ true → result ≡ (S.meaning scale.now).product start (body_value (S.meaning scale.now) (at lower.now) (at upper.now) body.now) }
 {
     let mut product = start;
     for literal in body {

@@ -4,10 +4,10 @@ use Rattle.std.specs.Option.{option_map}
 use Rattle.std.specs.Str.{bytes_eq}
 use Rattle.std.proofs.lemmas.List.{at_drop_more, at_drop_all}
 use Rattle.std.proofs.lemmas.Bool.{cond-true, cond-false}
-use Rattle.book.specs.Ledger.{every}
+use Rattle.std.specs.List.{list_all}
 use Rattle.text.specs.Entries.{index_of}
 
-pub every_map : {X Y : Type 0} (f : Y → Bool) (g : X → Y) (xs : List X) → every f (map g xs) ≡ every (λ x. f (g x)) xs
+pub every_map : {X Y : Type 0} (f : Y → Bool) (g : X → Y) (xs : List X) → list_all f (map g xs) ≡ list_all (λ x. f (g x)) xs
 every_map f g [] = refl
 every_map f g (x ∷ xs) = ap (λ t. f (g x) && t) (every_map f g xs)
 

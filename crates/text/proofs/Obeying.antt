@@ -4,7 +4,8 @@ use Rattle.std.specs.Option.{option_map}
 use Rattle.std.proofs.lemmas.Bool.{cond-false, or_from, le-ltb}
 use Rattle.scale.specs.Causes.{answered}
 use Rattle.scale.specs.declared.refusal.Refusal.{Refusal}
-use Rattle.book.specs.Ledger.{Clause, clause, every}
+use Rattle.book.specs.Ledger.{Clause, clause}
+use Rattle.std.specs.List.{list_all}
 use Rattle.book.specs.Calls.{empty, make_refusal}
 use Rattle.book.specs.declared.rule.Head.{Head}
 use Rattle.book.specs.declared.rule.Literal.{Literal}
@@ -75,10 +76,10 @@ spells [] = refl
 spells (t ∷ ts) = ap (λ l. said t ∷ l) (spells ts)
 
 -- a line that is not blank is obeyed as it is told
-pub row_told : (st : State) (place : Place) (bytes : List ℕ) (ts : List Token) (shape : Option Content) (heard : Result Content LineFault) → every is_space bytes ≡ false → map seen ts ≡ tokens_of place.byte bytes → shape ≡ line_of (map said ts) → told bytes (map said ts) shape place ≡ heard → row_read line_of st (row place bytes) ≡ obeying st place heard
+pub row_told : (st : State) (place : Place) (bytes : List ℕ) (ts : List Token) (shape : Option Content) (heard : Result Content LineFault) → list_all is_space bytes ≡ false → map seen ts ≡ tokens_of place.byte bytes → shape ≡ line_of (map said ts) → told bytes (map said ts) shape place ≡ heard → row_read line_of st (row place bytes) ≡ obeying st place heard
 row_told st place bytes ts shape heard busy tokens parsed is =
     let same : map said ts ≡ map (λ (t : Tok). t.spell) (tokens_of place.byte bytes) = spells ts ∙ ap (map (λ (t : Tok). t.spell)) tokens in
-    cond-false (every is_space bytes) _ _ busy ∙ sym (ap (λ l. obeying st place (told bytes l (line_of l) place)) same) ∙ sym (ap (λ o. obeying st place (told bytes (map said ts) o place)) parsed) ∙ ap (obeying st place) is
+    cond-false (list_all is_space bytes) _ _ busy ∙ sym (ap (λ l. obeying st place (told bytes l (line_of l) place)) same) ∙ sym (ap (λ o. obeying st place (told bytes (map said ts) o place)) parsed) ∙ ap (obeying st place) is
 
 -- the first of some rows
 pub rows_stop : (should : Result State ReadFault) (shape : List Spell → Option Content) (st next : State) (r : Row) (rs : List Row) (result : Result (Unit {0}) ReadFault) (y : ReadFault) (last : Result (Unit {0}) ReadFault) (end : State) → rows_read shape st (r ∷ rs) ≡ should → Did (row_read shape st r) result next → result ≡ Err y → last ≡ Err y → Did should last end

@@ -3,7 +3,7 @@ use Rattle.std.proofs.Common.{◌≡◌, ℕ, Bool, true, false, cond, ◌⊎◌
 use Rattle.std.specs.Str.{bytes_eq}
 use Rattle.std.proofs.lemmas.Slice.Eq.{bytes_eq-Decides}
 use Rattle.std.proofs.lemmas.Bool.{cond-true, cond-false, cases_Bool, and_parts, and_from}
-use Rattle.book.specs.Ledger.{every}
+use Rattle.std.specs.List.{list_all}
 use Rattle.text.specs.Lists.{onto, parted, added, traversed}
 use Rattle.text.specs.Parsing.{is_mark, name_of, number_of, verb_of, kind_of, then, term_of, terms_of, body_of, scale_line_of, name_line_of, rule_line_of, bound_line_of, line_by, line_of}
 use Rattle.text.specs.Shapes.{Item, plain, over, lacking, statement, bound, Content, scale, name, rule, is_name, is_comma, kind_word, term_spelled, terms_spelled, body_spelled, spelled, term_named, named, Shaped}
@@ -153,7 +153,7 @@ added_some (Some y) None zs e = absurd (none_some e)
 added_some (Some y) (Some ys) zs e = (y, ys, refl, refl, some_same e)
 
 abbrev PartsTold : List (List Spell) → List Item → Type 0
-PartsTold ps items = (every term_named items ≡ true) × (map term_spelled items ≡ ps)
+PartsTold ps items = (list_all term_named items ≡ true) × (map term_spelled items ≡ ps)
 
 parts_told : (ps : List (List Spell)) (items : List Item) → traversed term_of ps ≡ Some items → PartsTold ps items
 parts_told [] items e = subst (PartsTold []) (some_same e) (refl, refl)
@@ -161,10 +161,10 @@ parts_told (p ∷ ps) items e =
     let s = added_some (term_of p) (traversed term_of ps) items e in
     let t = term_told p s.0 s.2 in
     let ts = parts_told ps s.1 s.3 in
-    subst (PartsTold (p ∷ ps)) s.4 (and_from (term_named s.0) (every term_named s.1) t.0 ts.0, ap (λ x. x ∷ map term_spelled s.1) t.1 ∙ ap (λ l. p ∷ l) ts.1)
+    subst (PartsTold (p ∷ ps)) s.4 (and_from (term_named s.0) (list_all term_named s.1) t.0 ts.0, ap (λ x. x ∷ map term_spelled s.1) t.1 ∙ ap (λ l. p ∷ l) ts.1)
 
 abbrev BodyTold : List Spell → List Item → Type 0
-BodyTold ts body = (every term_named body ≡ true) × (body_spelled body ≡ ts)
+BodyTold ts body = (list_all term_named body ≡ true) × (body_spelled body ≡ ts)
 
 nil_cons : {A : Type 0} {x : A} {xs : List A} → ◌≡◌ {A = List A} [] (x ∷ xs) → ⊥
 nil_cons p = let z : ◌≡◌ {A = ℕ} 0 1 = cc in omega arith
@@ -209,7 +209,7 @@ rule_told (a ∷ b ∷ ts) l e =
     let r = then_some (body_of ts) (λ body. Some (rule (statement q.0) p.0 body)) l q.2 in
     let n = name_is b q.0 q.1 in
     let body = body_told ts r.0 r.1 in
-    subst (Told (word (codes "rule") ∷ a ∷ b ∷ ts)) (some_same r.2) (and_from (is_name q.0) (every term_named r.0) n.0 body.0, ap (λ x. word (codes "rule") ∷ x ∷ word q.0 ∷ body_spelled r.0) (number_is a p.0 p.1) ∙ ap (λ x. word (codes "rule") ∷ a ∷ x ∷ body_spelled r.0) n.1 ∙ ap (λ x. word (codes "rule") ∷ a ∷ b ∷ x) body.1)
+    subst (Told (word (codes "rule") ∷ a ∷ b ∷ ts)) (some_same r.2) (and_from (is_name q.0) (list_all term_named r.0) n.0 body.0, ap (λ x. word (codes "rule") ∷ x ∷ word q.0 ∷ body_spelled r.0) (number_is a p.0 p.1) ∙ ap (λ x. word (codes "rule") ∷ a ∷ x ∷ body_spelled r.0) n.1 ∙ ap (λ x. word (codes "rule") ∷ a ∷ b ∷ x) body.1)
 
 bound_told : (ts : List Spell) (l : Content) → bound_line_of ts ≡ Some l → Told (word (codes "bound") ∷ ts) l
 bound_told [] l e = absurd (none_some e)
@@ -250,13 +250,13 @@ parts_found (plain n) (u ∷ us) = ap (λ l. term_spelled (plain n) ∷ l) (part
 parts_found (over n d) (u ∷ us) = ap (λ l. term_spelled (over n d) ∷ l) (parts_found u us)
 parts_found (lacking n) (u ∷ us) = ap (λ l. term_spelled (lacking n) ∷ l) (parts_found u us)
 
-terms_found : (ts : List Item) → every term_named ts ≡ true → traversed term_of (map term_spelled ts) ≡ Some ts
+terms_found : (ts : List Item) → list_all term_named ts ≡ true → traversed term_of (map term_spelled ts) ≡ Some ts
 terms_found [] h = refl
 terms_found (t ∷ ts) h =
-    let p = and_parts (term_named t) (every term_named ts) h in
+    let p = and_parts (term_named t) (list_all term_named ts) h in
     ap (λ o. added o (traversed term_of (map term_spelled ts))) (term_found t p.0) ∙ ap (added (Some t)) (terms_found ts p.1)
 
-body_found : (body : List Item) → every term_named body ≡ true → body_of (body_spelled body) ≡ Some body
+body_found : (body : List Item) → list_all term_named body ≡ true → body_of (body_spelled body) ≡ Some body
 body_found [] h = refl
 body_found (t ∷ us) h = ap (traversed term_of) (parts_found t us) ∙ terms_found (t ∷ us) h
 
@@ -266,7 +266,7 @@ line_found (scale Godel d) h = refl
 line_found (scale Hours d) h = refl
 line_found (name n) h = ap (λ o. then o (λ m. Some (name m))) (cond-true (is_name n) (Some n) None h)
 line_found (rule (statement n) w body) h =
-    let p = and_parts (is_name n) (every term_named body) h in
+    let p = and_parts (is_name n) (list_all term_named body) h in
     ap (λ o. then o (λ m. then (body_of (body_spelled body)) (λ b. Some (rule (statement m) w b)))) (cond-true (is_name n) (Some n) None p.0) ∙ ap (λ o. then o (λ b. Some (rule (statement n) w b))) (body_found body p.1)
 line_found (rule (bound d) w body) h = ap (λ o. then o (λ b. Some (rule (bound d) w b))) (body_found body h)
 

@@ -1,7 +1,8 @@
 -- What a text means: its lines are obeyed one after another, and the first that is faulty decides.
 use Rattle.std.specs.Prelude.{◌≡◌, ℕ, ◌+◌, Bool, cond, not, ◌&&◌, ◌||◌, List, [], ◌∷◌, ◌++◌, map, length, is_some, Some, None, Ok, Err, Option, Result, ◌==◌, nat_lt}
 use Rattle.scale.specs.declared.refusal.Refusal.{Refusal}
-use Rattle.book.specs.Ledger.{every, Clause, Ledger}
+use Rattle.book.specs.Ledger.{Clause, Ledger}
+use Rattle.std.specs.List.{list_all}
 use Rattle.book.specs.Calls.{empty, make_refusal, enter_refusal, entered}
 use Rattle.text.specs.Bytes.{allowed}
 use Rattle.text.specs.Entries.{index_of, rule_of}
@@ -27,7 +28,7 @@ is_space b = b == 32
 -- the bytes of a line are tested before its numbers
 abbrev pub unlettered : List ℕ → List Spell → Place → Result (Unit {0}) TextFault
 unlettered bytes tokens place =
-    cond (every allowed bytes) (cond (every short tokens) (Ok tt) (Err (LongNumber place))) (Err (BadByte place))
+    cond (list_all allowed bytes) (cond (list_all short tokens) (Ok tt) (Err (LongNumber place))) (Err (BadByte place))
 
 abbrev pub in_line : {A B : Type 0} → Result A TextFault → Result B LineFault → Result B LineFault
 in_line (Ok a) r = r
@@ -97,7 +98,7 @@ obeying st place (Err e) = Err (Line e)
 -- one line, with the shape of each list of tokens; a line of spaces only is skipped
 abbrev pub row_read : (List Spell → Option Content) → State → Row → Result State ReadFault
 row_read shape st r =
-    cond (every is_space r.bytes) (Ok st) (obeying st r.place (told r.bytes (map (λ t. t.spell) (tokens_of r.place.byte r.bytes)) (shape (map (λ t. t.spell) (tokens_of r.place.byte r.bytes))) r.place))
+    cond (list_all is_space r.bytes) (Ok st) (obeying st r.place (told r.bytes (map (λ t. t.spell) (tokens_of r.place.byte r.bytes)) (shape (map (λ t. t.spell) (tokens_of r.place.byte r.bytes))) r.place))
 
 abbrev pub after : {A B E : Type 0} → Result A E → (A → Result B E) → Result B E
 after (Ok a) f = f a

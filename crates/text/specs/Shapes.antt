@@ -1,6 +1,6 @@
 -- What a line says, and how it is spelled.
 use Rattle.std.specs.Prelude.{◌≡◌, ℕ, Bool, true, false, ◌&&◌, List, [], ◌∷◌, ◌++◌, map, Some, None, vec_items, codes, Option, ◌≢◌}
-use Rattle.book.specs.Ledger.{every}
+use Rattle.std.specs.List.{list_all}
 use Rattle.text.specs.Bytes.{letter}
 use Rattle.text.specs.Tokens.{Spell, word, number, mark}
 use Rattle.text.specs.declared.tokens.Mark.TheVariants.{Colon, Comma, Above, Not}
@@ -93,8 +93,8 @@ term_named (lacking n) = is_name n
 abbrev pub named : Content → Bool
 named (scale k d) = true
 named (name n) = is_name n
-named (rule (statement n) w body) = is_name n && every term_named body
-named (rule (bound d) w body) = every term_named body
+named (rule (statement n) w body) = is_name n && list_all term_named body
+named (rule (bound d) w body) = list_all term_named body
 
 -- what the tokens of a line say, if they are those of any line
 abbrev pub Shaped : List Spell → Option Content → Type 0

@@ -1,6 +1,6 @@
 -- The tokens of a line: its longest runs of word bytes, and its marks.
 use Rattle.std.specs.Prelude.{ℕ, suc, Bool, true, cond, List, [], ◌∷◌, length, Some, None, Option, nat_le}
-use Rattle.book.specs.Ledger.{every}
+use Rattle.std.specs.List.{list_all}
 use Rattle.text.specs.Bytes.{digit, wordly, sign_of}
 use Rattle.text.specs.declared.tokens.Mark.{Mark}
 use Rattle.text.specs.declared.tokens.Token.{Token}
@@ -35,7 +35,7 @@ abbrev pub seen : Token → Tok
 seen t = token (said t) (place_of t)
 
 abbrev pub run_spell : List ℕ → Spell
-run_spell w = cond (every digit w) (number w) (word w)
+run_spell w = cond (list_all digit w) (number w) (word w)
 
 -- what stands in a line: runs of word bytes, marks, and what parts them
 pub data Piece : Type 0 where

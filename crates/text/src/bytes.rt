@@ -2,7 +2,7 @@
 ghost use Rattle.std.specs.Prelude.{◌≡◌};
 ghost use Rattle.std.specs.List.{prefix_len};
 ghost use Rattle.std.specs.Str.{bytes_eq};
-ghost use Rattle.book.specs.Ledger.{every};
+ghost use Rattle.std.specs.List.{list_all};
 ghost use Rattle.text.specs.Bytes.{digit, wordly, sign_of, allowed};
 
 use super::tokens::Mark;
@@ -33,7 +33,7 @@ fn is_allowed(b: u8) -> bool
 
 // Is every byte of the line allowed?
 pub(crate) fn all_allowed(line: &[u8]) -> bool
-    ensures { result ≡ every allowed line.now }
+    ensures { result ≡ list_all allowed line.now }
 {
     for b in line {
         if !is_allowed(*b) {
@@ -51,7 +51,7 @@ fn is_digit(b: u8) -> bool
 
 // Is the word made of digits only?
 pub(crate) fn all_digits(word: &[u8]) -> bool
-    ensures { result ≡ every digit word.now }
+    ensures { result ≡ list_all digit word.now }
 {
     for b in word {
         if !is_digit(*b) {

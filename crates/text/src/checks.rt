@@ -1,6 +1,6 @@
 // What is tested of a line before it is read: its bytes first, then its numbers, then its shape.
 ghost use Rattle.std.specs.Prelude.{◌≡◌, map, Ok, Err, MatchResult};
-ghost use Rattle.book.specs.Ledger.{every};
+ghost use Rattle.std.specs.List.{list_all};
 ghost use Rattle.std.specs.Option.{option_map};
 ghost use Rattle.text.specs.Tokens.{said, short};
 ghost use Rattle.text.specs.Shapes.{seen_line};
@@ -12,7 +12,7 @@ use super::shapes::Line;
 use super::tokens::Token;
 
 pub(crate) fn is_blank(line: &[u8]) -> bool
-    ensures { result ≡ every is_space line.now }
+    ensures { result ≡ list_all is_space line.now }
 {
     for b in line {
         if *b != b' ' {
@@ -35,7 +35,7 @@ fn is_short(token: &Token) -> bool
 
 // Is every number short?
 fn all_short(tokens: &[Token]) -> bool
-    ensures { result ≡ every short (map said tokens.now) }
+    ensures { result ≡ list_all short (map said tokens.now) }
 {
     for token in tokens {
         if !is_short(token) {

@@ -2,7 +2,8 @@
 use Rattle.std.proofs.Common.{◌≡◌, ℕ, ◌<◌, ◌≤◌, Bool, true, ◌&&◌, eqb, ltb, List, [], ◌∷◌, refl, ◌∙◌, ap₂, arith, ltb-true}
 use Rattle.std.proofs.lemmas.Bool.{and_parts, cond_both, cond-false, ne_eqb}
 use Rattle.scale.specs.Meaning.{Meaning, Laws, top}
-use Rattle.book.specs.Ledger.{Clause, Lawful, every, head_known, head_fits, literal_known, literal_fits}
+use Rattle.book.specs.Ledger.{Clause, Lawful, head_known, head_fits, literal_known, literal_fits}
+use Rattle.std.specs.List.{list_all}
 use Rattle.book.specs.declared.rule.Head.{Head}
 use Rattle.book.specs.declared.rule.Head.TheVariants.{Statement, Bound}
 use Rattle.book.specs.declared.rule.Literal.{Literal}
@@ -46,9 +47,9 @@ headed h c = record { head = h; weight = c.weight; body = c.body }
 pub by_head : (P : Clause → Type 0) (c : Clause) → ((s : ℕ) → P (headed (Statement s) c)) → ((d : ℕ) → P (headed (Bound d) c)) → P c
 by_head P c f g = elim c.head as (λ h. P (headed h c)) [ Statement s ↦ f s | Bound d ↦ g d ]
 
-every_all : {A : Type 0} (f : A → Bool) (xs : List A) → every f xs ≡ true → AllByRecursion (λ x. f x ≡ true) xs
+every_all : {A : Type 0} (f : A → Bool) (xs : List A) → list_all f xs ≡ true → AllByRecursion (λ x. f x ≡ true) xs
 every_all f [] e = tt
-every_all f (x ∷ xs) e = let p = and_parts (f x) (every f xs) e in (p.0, every_all f xs p.1)
+every_all f (x ∷ xs) e = let p = and_parts (f x) (list_all f xs) e in (p.0, every_all f xs p.1)
 
 head_within_from : (levels statements : ℕ) (h : Head) → head_known statements h ≡ true → head_fits levels h ≡ true → HeadWithin levels statements h
 head_within_from levels statements (Statement s) k f = ltb-true s statements k
@@ -61,9 +62,9 @@ literal_within_from levels statements (Lacking s) k f = ltb-true s statements k
 
 pub within : {levels statements : ℕ} {c : Clause} → Lawful levels statements c → Within levels statements c
 within {levels} {statements} {c} lawful =
-    let k = and_parts (head_known statements c.head) (every (literal_known statements) c.body) lawful.knows in
-    let f = and_parts (ltb c.weight levels) (head_fits levels c.head && every (literal_fits levels) c.body) lawful.degrees in
-    let g = and_parts (head_fits levels c.head) (every (literal_fits levels) c.body) f.1 in
+    let k = and_parts (head_known statements c.head) (list_all (literal_known statements) c.body) lawful.knows in
+    let f = and_parts (ltb c.weight levels) (head_fits levels c.head && list_all (literal_fits levels) c.body) lawful.degrees in
+    let g = and_parts (head_fits levels c.head) (list_all (literal_fits levels) c.body) f.1 in
     record {
       head_within = head_within_from levels statements c.head k.0 g.0;
       weight_within = ltb-true c.weight levels f.0;

@@ -2,7 +2,8 @@ use Rattle.std.proofs.Common.{◌≡◌, ℕ, ◌<◌, true, eqb, ltb, List, len
 use Rattle.std.proofs.lemmas.Bool.{eq-eqb}
 use Rattle.scale.specs.Meaning.{Laws}
 use Rattle.scale.proofs.Grants.{grants}
-use Rattle.book.specs.Ledger.{Clause, every}
+use Rattle.book.specs.Ledger.{Clause}
+use Rattle.std.specs.List.{list_all}
 use Rattle.book.specs.View.{ledger_of}
 use Rattle.theory.specs.Semantics.{Setting, at}
 use Rattle.solve.specs.Verdicts.{Judged, Checked, check_refusal}
@@ -17,8 +18,8 @@ judge-requires g c =
     let setting = c.args.setting.now in
     let levels : m.levels ≡ book.levels = sym c.levels.ensures ∙ c.if-levels.false ∙ c.levels-levels.ensures in
     let size : length setting ≡ book.statements = c.if-setting-from.false ∙ c.from.ensures ∙ c.statements.ensures in
-    let passed : every (λ d. ltb d m.levels) setting ≡ true =
-    subst (λ (k : ℕ). every (λ d. ltb d k) setting ≡ true) (c.levels-levels.ensures ∙ sym levels) (sym c.if-not-all_below.ensures) in
+    let passed : list_all (λ d. ltb d m.levels) setting ≡ true =
+    subst (λ (k : ℕ). list_all (λ d. ltb d k) setting ≡ true) (c.levels-levels.ensures ∙ sym levels) (sym c.if-not-all_below.ensures) in
     let some : 0 < m.levels = omega (arith, levels, book.least) in
     (degrees_from m.levels setting some passed, (ready_rules m (length setting) book c.rules.result.now c.rules.ensures levels size, omega (arith, size, book.few)))
 
@@ -29,8 +30,8 @@ returns g c =
     let setting = c.args.setting.now in
     let levels : m.levels ≡ book.levels = sym c.levels.ensures ∙ c.if-levels.false ∙ c.levels-levels.ensures in
     let size : length setting ≡ book.statements = c.if-setting-from.false ∙ c.from.ensures ∙ c.statements.ensures in
-    let passed : every (λ d. ltb d book.levels) setting ≡ true =
-    subst (λ (k : ℕ). every (λ d. ltb d k) setting ≡ true) c.levels-levels.ensures (sym c.if-not-all_below.ensures) in
+    let passed : list_all (λ d. ltb d book.levels) setting ≡ true =
+    subst (λ (k : ℕ). list_all (λ d. ltb d k) setting ≡ true) c.levels-levels.ensures (sym c.if-not-all_below.ensures) in
     let alike : eqb m.levels book.levels ≡ true = eq-eqb _ _ levels in
     let long : eqb (length setting) book.statements ≡ true = eq-eqb _ _ size in
     let none : check_refusal m (ledger_of book) setting ≡ None = rw (passed, alike, long) refl in

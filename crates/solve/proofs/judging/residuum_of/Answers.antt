@@ -1,6 +1,7 @@
 use Rattle.std.proofs.Common.{◌≡◌, ℕ, ◌<◌, true, List, sym, ◌∙◌, subst, ap₂, arith}
 use Rattle.scale.specs.Meaning.{Laws, clip}
-use Rattle.book.specs.Ledger.{every, literal_fits}
+use Rattle.book.specs.Ledger.{literal_fits}
+use Rattle.std.specs.List.{list_all}
 use Rattle.book.specs.declared.rule.Literal.{Literal}
 use Rattle.book.specs.Rows.{clause_of}
 use Rattle.theory.specs.Semantics.{at, body_value}
@@ -18,5 +19,5 @@ returns g c =
     let weight = fits_weight m.levels rule c.requires.1 in
     let laws : Laws m = g.met.S.Scale.lawful c.args.scale.now (omega (arith, weight)) in
     let worth = body_degree laws c.requires.0 c.requires.0 rule.body in
-    let product : c.times_body-body.result ≡ body_value m l l rule.body = c.times_body-body.ensures c.requires.0 c.requires.0 (subst (λ (k : ℕ). k < m.levels) (sym c.top.ensures) (top_degree laws)) (subst (λ (xs : List Literal). every (literal_fits m.levels) xs ≡ true) (sym c.literals.ensures) (fits_body m.levels rule c.requires.1)) ∙ ap₂ (λ a xs. m.product a (body_value m l l xs)) c.top.ensures c.literals.ensures ∙ laws.product_top _ worth in
+    let product : c.times_body-body.result ≡ body_value m l l rule.body = c.times_body-body.ensures c.requires.0 c.requires.0 (subst (λ (k : ℕ). k < m.levels) (sym c.top.ensures) (top_degree laws)) (subst (λ (xs : List Literal). list_all (literal_fits m.levels) xs ≡ true) (sym c.literals.ensures) (fits_body m.levels rule c.requires.1)) ∙ ap₂ (λ a xs. m.product a (body_value m l l xs)) c.top.ensures c.literals.ensures ∙ laws.product_top _ worth in
     c.residuum.ensures ∙ ap₂ (λ a b. m.residuum (clip m a) (clip m b)) product c.head_degree.ensures ∙ clip_both m m.residuum worth (fits_head m c.requires.0 rule c.requires.1)

@@ -3,7 +3,8 @@ use Rattle.std.proofs.ByRecursion.{All-get_or}
 use Rattle.std.proofs.lemmas.List.{get_or_default}
 use Rattle.std.proofs.lemmas.Bool.{eq-eqb, lt-leb}
 use Rattle.scale.proofs.Grants.{grants}
-use Rattle.book.specs.Ledger.{Clause, Lawful, every, fits}
+use Rattle.book.specs.Ledger.{Clause, Lawful, fits}
+use Rattle.std.specs.List.{list_all}
 use Rattle.book.specs.Rows.{clause_of}
 use Rattle.book.specs.View.{ledger_of}
 use Rattle.theory.specs.Semantics.{at, yield}
@@ -24,8 +25,8 @@ returns g c =
     let is : rule ≡ get_or rules i rule = c.in_ok-rule.ensures.1 in
     let levels : m.levels ≡ book.levels = sym c.levels.ensures ∙ c.if-levels-count.false ∙ c.levels-count.ensures in
     let size : length setting ≡ book.statements = c.if-setting-from.false ∙ c.from.ensures ∙ c.statements.ensures in
-    let passed : every (λ d. ltb d book.levels) setting ≡ true =
-    subst (λ (k : ℕ). every (λ d. ltb d k) setting ≡ true) c.levels-count.ensures (sym c.if-not-all_below.ensures) in
+    let passed : list_all (λ d. ltb d book.levels) setting ≡ true =
+    subst (λ (k : ℕ). list_all (λ d. ltb d k) setting ≡ true) c.levels-count.ensures (sym c.if-not-all_below.ensures) in
     let there : leb (length rules) i ≡ false = lt-leb (length rules) i within in
     let alike : eqb m.levels book.levels ≡ true = eq-eqb _ _ levels in
     let long : eqb (length setting) book.statements ≡ true = eq-eqb _ _ size in
