@@ -3,6 +3,4 @@ pub mod Kinds
 pub mod Made
 pub mod Meaning
 pub mod Refusals
-pub mod Digits
 pub mod Sets
-pub mod HoursScaleLemmas

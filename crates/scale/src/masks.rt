@@ -4,12 +4,11 @@ ghost use Rattle.std.proofs.Common.{◌∙◌, arith, pow_pos, pow_mono};
 ghost use Rattle.scale.specs.Kinds.{hours};
 ghost use Rattle.scale.specs.Made.{Made};
 ghost use Rattle.std.proofs.Math.Pow.{ones_sub-lt};
-ghost use Rattle.std.proofs.lemmas.Nat.{and_comm, or_lt, ones-le};
+ghost use Rattle.std.proofs.lemmas.Nat.{and_assoc, and_comm, or_lt, ones-le};
 ghost use Rattle.std.specs.Int.Bits.{and_self, and_lt};
 ghost use Rattle.std.proofs.lemmas.Bool.{eqb-true, eq-eqb};
-ghost use Rattle.scale.specs.Digits.{and_assoc};
+ghost use Rattle.std.proofs.lemmas.Bool.Decides.{Decides-eqb, Decides-like, same_from_decides};
 ghost use Rattle.scale.specs.Sets;
-ghost use Rattle.scale.specs.HoursScaleLemmas.{same_test};
 
 use super::{Refusal, Scale};
 
@@ -67,9 +66,9 @@ impl Scale for Hours {
           join_right = λ a b p q. eq-eqb _ _ (Sets.or_right a b);
           join_least = λ a b c p q r x y. eq-eqb _ _ (Sets.or_least a b c (eqb-true _ _ x) (eqb-true _ _ y));
           product_comm = λ a b p q. and_comm a b;
-          product_assoc = λ a b c p q r. and_assoc a b c;
+          product_assoc = λ a b c p q r. and_assoc c a b;
           product_top = λ a p. and_comm (2 ^ h - 1) a ∙ Sets.in_all h a p;
-          residuation = λ a b c p q r. same_test _ _ _ _ (Sets.to_residuum h a b c p r) (Sets.from_residuum h a b c p);
+          residuation = λ a b c p q r. same_from_decides _ _ (Decides-eqb _ _) (Decides-like _ (Sets.from_residuum h a b c p) (Sets.to_residuum h a b c p r) (Decides-eqb _ _));
           lack_antitone = λ a b p q x. eq-eqb _ _ (Sets.lack_turns h a b p q (eqb-true _ _ x));
           lack_bottom = omega arith;
           lack_top = omega arith;
