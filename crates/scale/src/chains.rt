@@ -1,170 +1,136 @@
-// The two kinds of scale whose degrees form a chain from 0 to k. They differ only in product and residuum.
-ghost use Rattle.std.specs.Prelude.{◌≡◌, ◌+◌, ◌-◌, ◌≤◌, min, max, nat_le};
-ghost use Rattle.scale.specs.Kinds.{luk, godel};
+// The kinds of scale whose degrees form a chain from 0 to k. They differ only in their norm: product and residuum.
+ghost use Rattle.std.specs.Prelude.{◌≡◌, ℕ, ◌+◌, ◌-◌, ◌≤◌, min, max, nat_le};
+ghost use Rattle.scale.specs.Kinds.{chain, luk, godel};
 ghost use Rattle.scale.specs.Made.{Made};
+ghost use Rattle.scale.specs.Norms.{NormLaws};
 ghost use Rattle.std.proofs.Common.{rules};
 
+use super::size::Size;
 use super::{Refusal, Scale};
+use std::marker::PhantomData;
 
-// The degrees 0 to k, and what both kinds answer of them.
-#[derive(Clone, Copy)]
-struct Chain {
-    k: u8,
-    ghost least: { 1 ≤ k },
-    ghost most: { k ≤ 63 },
-}
+// A t-norm: how degrees of the chain from 0 to k multiply, with the residuum that goes with the product.
+pub trait Norm {
+    ghost product: { ℕ → ℕ → ℕ → ℕ };
 
-impl Chain {
-    fn new(k: u8) -> Result<Chain, Refusal>
-        ensures { Made (λ s. s.k) 63 k result }
-    {
-        if k < 1 || k > 63 {
-            return Err(Refusal::ScaleSize);
-        }
-        Ok(Chain { k })
-    }
+    ghost residuum: { ℕ → ℕ → ℕ → ℕ };
 
-    fn levels(&self) -> u8
-        ensures { result ≡ self.now.k + 1 }
-    {
-        self.k + 1
-    }
+    fn product(k: Size<63>, a: u8, b: u8) -> u8
+        requires left { a ≤ k.value }
+        requires right { b ≤ k.value }
+        ensures { result ≡ product k.value a b };
 
-    fn clip(&self, a: u8) -> u8
-        ensures { result ≡ min a self.now.k }
-    {
-        a.min(self.k)
-    }
+    fn residuum(k: Size<63>, a: u8, b: u8) -> u8
+        requires left { a ≤ k.value }
+        requires right { b ≤ k.value }
+        ensures { result ≡ residuum k.value a b };
 
-    fn below(&self, a: u8, b: u8) -> bool
-        ensures { result ≡ nat_le (min a self.now.k) (min b self.now.k) }
-    {
-        self.clip(a) <= self.clip(b)
-    }
-
-    fn join(&self, a: u8, b: u8) -> u8
-        ensures { result ≡ min (max a b) self.now.k }
-    {
-        self.clip(a.max(b))
-    }
-
-    fn lack(&self, a: u8) -> u8
-        ensures { result ≡ self.now.k - a }
-    {
-        self.k.saturating_sub(a)
-    }
+    ghost lawful: { (k : ℕ) → NormLaws k (product k) (residuum k) };
 }
 
 // Łukasiewicz: shortfalls from the top add up.
 #[derive(Clone, Copy)]
-pub struct Luk {
-    chain: Chain,
-}
+pub struct Lukasiewicz;
 
-impl Luk {
-    // The degrees 0 to k, for a k from 1 to 63.
-    pub fn new(k: u8) -> Result<Luk, Refusal>
-        ensures { Made (λ s. s.chain.k) 63 k result }
-    {
-        Ok(Luk {
-            chain: Chain::new(k)?,
-        })
-    }
-}
+impl Norm for Lukasiewicz {
+    ghost product = { λ k. (luk k).product };
 
-impl Scale for Luk {
-    ghost meaning = { λ s. luk s.chain.k };
+    ghost residuum = { λ k. (luk k).residuum };
 
     ghost lawful = { Prim.search rules };
 
-    fn levels(&self) -> u8 {
-        self.chain.levels()
+    fn product(k: Size<63>, a: u8, b: u8) -> u8 {
+        (a + b).saturating_sub(k.value)
     }
 
-    fn height(&self) -> u8 {
-        self.chain.k
-    }
-
-    fn below(&self, a: u8, b: u8) -> bool {
-        self.chain.below(a, b)
-    }
-
-    fn join(&self, a: u8, b: u8) -> u8 {
-        self.chain.join(a, b)
-    }
-
-    fn product(&self, a: u8, b: u8) -> u8 {
-        (self.chain.clip(a) + self.chain.clip(b)).saturating_sub(self.chain.k)
-    }
-
-    fn residuum(&self, a: u8, b: u8) -> u8 {
-        self.chain.clip(self.chain.lack(a) + self.chain.clip(b))
-    }
-
-    fn lack(&self, a: u8) -> u8 {
-        self.chain.lack(a)
-    }
-
-    fn rank(&self, a: u8) -> u8 {
-        self.chain.clip(a)
+    fn residuum(k: Size<63>, a: u8, b: u8) -> u8 {
+        k.value.min(k.value - a + b)
     }
 }
 
-// Gödel: the weakest counts.
+// Gödel: the weakest counts, so the product is the minimum.
 #[derive(Clone, Copy)]
-pub struct Godel {
-    chain: Chain,
-}
+pub struct Minimum;
 
-impl Godel {
-    // The degrees 0 to k, for a k from 1 to 63.
-    pub fn new(k: u8) -> Result<Godel, Refusal>
-        ensures { Made (λ s. s.chain.k) 63 k result }
-    {
-        Ok(Godel {
-            chain: Chain::new(k)?,
-        })
-    }
-}
+impl Norm for Minimum {
+    ghost product = { λ k. (godel k).product };
 
-impl Scale for Godel {
-    ghost meaning = { λ s. godel s.chain.k };
+    ghost residuum = { λ k. (godel k).residuum };
 
     ghost lawful = { Prim.search rules };
 
+    fn product(_k: Size<63>, a: u8, b: u8) -> u8 {
+        a.min(b)
+    }
+
+    fn residuum(k: Size<63>, a: u8, b: u8) -> u8 {
+        if a <= b { k.value } else { b }
+    }
+}
+
+// The degrees 0 to k, ordered as numbers, under a norm.
+#[derive(Clone, Copy)]
+pub struct Chain<N: Norm> {
+    k: Size<63>,
+    norm: PhantomData<N>,
+}
+
+pub type Luk = Chain<Lukasiewicz>;
+
+pub type Godel = Chain<Minimum>;
+
+impl<N: Norm> Chain<N> {
+    // The degrees 0 to k, for a k from 1 to 63.
+    pub fn new(k: u8) -> Result<Chain<N>, Refusal>
+        ensures { Made (λ s. s.k.value) 63 k result }
+    {
+        Ok(Chain {
+            k: Size::try_from(k)?,
+            norm: PhantomData,
+        })
+    }
+
+    fn clip(&self, a: u8) -> u8
+        ensures { result ≡ min a self.now.k.value }
+    {
+        a.min(self.k.value)
+    }
+}
+
+impl<N: Norm> Scale for Chain<N> {
+    ghost meaning = { λ s. chain s.k.value (N.product s.k.value) (N.residuum s.k.value) };
+
+    ghost lawful = { λ s p. Prim.search (rules, N.lawful s.k.value) };
+
     fn levels(&self) -> u8 {
-        self.chain.levels()
+        self.k.value + 1
     }
 
     fn height(&self) -> u8 {
-        self.chain.k
+        self.k.value
     }
 
     fn below(&self, a: u8, b: u8) -> bool {
-        self.chain.below(a, b)
+        self.clip(a) <= self.clip(b)
     }
 
     fn join(&self, a: u8, b: u8) -> u8 {
-        self.chain.join(a, b)
+        self.clip(a.max(b))
     }
 
     fn product(&self, a: u8, b: u8) -> u8 {
-        self.chain.clip(a.min(b))
+        N::product(self.k, self.clip(a), self.clip(b))
     }
 
     fn residuum(&self, a: u8, b: u8) -> u8 {
-        if self.chain.below(a, b) {
-            self.chain.k
-        } else {
-            self.chain.clip(b)
-        }
+        N::residuum(self.k, self.clip(a), self.clip(b))
     }
 
     fn lack(&self, a: u8) -> u8 {
-        self.chain.lack(a)
+        self.k.value.saturating_sub(a)
     }
 
     fn rank(&self, a: u8) -> u8 {
-        self.chain.clip(a)
+        self.clip(a)
     }
 }

@@ -7,6 +7,7 @@ ghost use Rattle.scale.specs.Meaning.{Meaning, Laws, clipped};
 mod chains;
 mod masks;
 mod refusal;
+mod size;
 
 pub use chains::{Godel, Luk};
 pub use masks::Hours;

@@ -10,48 +10,46 @@ ghost use Rattle.std.proofs.lemmas.Bool.{eqb-true, eq-eqb};
 ghost use Rattle.std.proofs.lemmas.Bool.Decides.{Decides-eqb, Decides-like, same_from_decides};
 ghost use Rattle.scale.specs.Sets;
 
+use super::size::Size;
 use super::{Refusal, Scale};
 
 #[derive(Clone, Copy)]
 pub struct Hours {
-    count: u8,
-    ghost least: { 1 ≤ count },
-    ghost most: { count ≤ 6 },
+    count: Size<6>,
 }
 
 impl Hours {
     // The sets of the hours 0 to count - 1, for a count from 1 to 6.
     pub fn new(count: u8) -> Result<Hours, Refusal>
-        ensures { Made (λ s. s.count) 6 count result }
+        ensures { Made (λ s. s.count.value) 6 count result }
     {
-        if count < 1 || count > 6 {
-            return Err(Refusal::ScaleSize);
-        }
-        Ok(Hours { count })
+        Ok(Hours {
+            count: Size::try_from(count)?,
+        })
     }
 
     // The set of all hours.
     fn all(&self) -> u8
-        ensures { result ≡ 2 ^ self.now.count - 1 }
+        ensures { result ≡ 2 ^ self.now.count.value - 1 }
     {
-        (1 << self.count) - 1
+        (1 << self.count.value) - 1
     }
 
     fn clip(&self, a: u8) -> u8
-        ensures { result ≡ min a (2 ^ self.now.count - 1) }
+        ensures { result ≡ min a (2 ^ self.now.count.value - 1) }
     {
         a.min(self.all())
     }
 }
 
 impl Scale for Hours {
-    ghost meaning = { λ s. hours s.count };
+    ghost meaning = { λ s. hours s.count.value };
 
     ghost lawful = { λ s p.
-        let h = s.count in
+        let h = s.count.value in
         record {
-          levels_least = pow_mono s.least;
-          levels_most = pow_mono s.most;
+          levels_least = pow_mono s.count.least;
+          levels_most = pow_mono s.count.most;
           height_bound = Sets.below_pow h;
           join_degree = λ a b p q. or_lt h a b p q;
           product_degree = λ a b p q. and_lt h a b p q;
@@ -82,7 +80,7 @@ impl Scale for Hours {
     }
 
     fn height(&self) -> u8 {
-        self.count
+        self.count.value
     }
 
     fn below(&self, a: u8, b: u8) -> bool {
