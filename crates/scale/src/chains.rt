@@ -75,6 +75,7 @@ pub struct Chain<N: Norm> {
     norm: PhantomData<N>,
 }
 
+// A Luk of size k means `luk k`, and a Godel `godel k`.
 pub type Luk = Chain<Lukasiewicz>;
 
 pub type Godel = Chain<Minimum>;
