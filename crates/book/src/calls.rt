@@ -17,14 +17,14 @@ use std::alloc::{AllocError, Global};
 // The most rules that a book may have.
 const MOST_RULES: usize = 64;
 
-// Why a book cannot be made of these levels and statements.
-pub fn size_refusal(levels: u8, statements: u8) -> Option<Refusal>
-    ensures { result ≡ make_refusal levels statements }
+// May a book be made of these levels and statements?
+pub fn allowed_size(levels: u8, statements: u8) -> Result<(), Refusal>
+    ensures { result ≡ answered (make_refusal levels statements) tt }
 {
-    if levels < 2 || levels > 64 || statements > 16 {
-        return Some(Refusal::BookSize);
+    if !(2..=64).contains(&levels) || statements > 16 {
+        return Err(Refusal::BookSize);
     }
-    None
+    Ok(())
 }
 
 impl Book {
@@ -46,9 +46,7 @@ impl Book {
         ensures answer { result ≡ answered (make_refusal levels statements) tt }
         ensures after { ledger_of self.new ≡ remade (ledger_of self.old) levels statements }
     {
-        if let Some(refusal) = size_refusal(levels, statements) {
-            return Err(refusal);
-        }
+        allowed_size(levels, statements)?;
         self.table.rows.clear();
         self.levels = levels;
         self.statements = statements;

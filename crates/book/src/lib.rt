@@ -10,6 +10,6 @@ mod rule;
 mod table;
 
 pub use books::Book;
-pub use calls::size_refusal;
+pub use calls::allowed_size;
 pub use rows::{Body, Rule};
 pub use rule::{Head, Literal};
