@@ -97,10 +97,10 @@ impl Book {
     fn admit(&self, head: Head, weight: u8, body: &[Literal]) -> Result<Rule, Refusal>
         ensures { Admitted self.now.levels self.now.statements (clause head weight body.now) result }
     {
-        if !(head.known(self.statements) & all_known(body, self.statements)) {
+        if !(head.known(self.statements) && all_known(body, self.statements)) {
             return Err(Refusal::UnknownStatement);
         }
-        if !((weight < self.levels) & (head.fits(self.levels) & all_fit(body, self.levels))) {
+        if !(weight < self.levels && head.fits(self.levels) && all_fit(body, self.levels)) {
             return Err(Refusal::DegreeTooHigh);
         }
         let body = Body::new(body)?;
@@ -108,26 +108,17 @@ impl Book {
     }
 }
 
-// Does every literal name only statements below `statements`?
+// Does every literal name only statements below `statements`? In `admit` the chain itself would leave open what it
+// answered once the rows behind it are made; a function of its own ensures that.
 fn all_known(body: &[Literal], statements: u8) -> bool
     ensures { result ≡ list_all (literal_known statements) body.now }
 {
-    for literal in body {
-        if !literal.known(statements) {
-            return false;
-        }
-    }
-    true
+    body.iter().all(|literal| literal.known(statements))
 }
 
 // Has every literal only degrees below `levels`?
 fn all_fit(body: &[Literal], levels: u8) -> bool
     ensures { result ≡ list_all (literal_fits levels) body.now }
 {
-    for literal in body {
-        if !literal.fits(levels) {
-            return false;
-        }
-    }
-    true
+    body.iter().all(|literal| literal.fits(levels))
 }
