@@ -15,9 +15,7 @@ impl Body {
             return Err(Refusal::BodyTooLong);
         }
         let mut row = [Literal::Plain(0); MOST_LITERALS];
-        for (i, literal) in literals.iter().enumerate() {
-            row[i] = *literal;
-        }
+        row[..literals.len()].copy_from_slice(literals);
         Ok(Body {
             literals: row,
             len: literals.len(),

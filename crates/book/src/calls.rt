@@ -108,8 +108,8 @@ impl Book {
     }
 }
 
-// Does every literal name only statements below `statements`? In `admit` the chain itself would leave open what it
-// answered once the rows behind it are made; a function of its own ensures that.
+// Does every literal name only statements below `statements`? The chain stands in a function of its own, and the next
+// one too, since what a chain in `admit` answered would not be known there further on.
 fn all_known(body: &[Literal], statements: u8) -> bool
     ensures { result ≡ list_all (literal_known statements) body.now }
 {
