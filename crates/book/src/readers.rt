@@ -30,10 +30,7 @@ impl Book {
     pub fn rule(&self, i: usize) -> Result<Rule, Refusal>
         ensures { Shown (ledger_of self.now) i result }
     {
-        if i >= self.table.rows.len() {
-            return Err(Refusal::NoSuchRule);
-        }
-        Ok(self.table.rows[i])
+        self.table.rows.get(i).copied().ok_or(Refusal::NoSuchRule)
     }
 
     // All rules, in their order.

@@ -9,7 +9,7 @@ pub const MOST_LITERALS: usize = 4;
 // A list of at most four literals.
 #[derive(Clone, Copy)]
 pub struct Body {
-    pub(crate) literals: [Literal; 4],
+    pub(crate) literals: [Literal; MOST_LITERALS],
     pub(crate) len: usize,
     ghost short: { len ≤ 4 },
 }

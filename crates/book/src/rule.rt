@@ -44,9 +44,7 @@ impl Literal {
         ensures { result ≡ literal_known statements self }
     {
         match self {
-            Literal::Plain(s) => s < statements,
-            Literal::Above(s, _) => s < statements,
-            Literal::Lacking(s) => s < statements,
+            Literal::Plain(s) | Literal::Above(s, _) | Literal::Lacking(s) => s < statements,
         }
     }
 
