@@ -6,7 +6,8 @@ use super::rule::{Head, Literal};
 // The most literals that a body may have.
 pub const MOST_LITERALS: usize = 4;
 
-// A list of at most four literals.
+// A list of at most four literals: an array with its length and no `ArrayVec`, since a rule is Copy and a call on a
+// book takes no memory.
 #[derive(Clone, Copy)]
 pub struct Body {
     pub(crate) literals: [Literal; MOST_LITERALS],
