@@ -1,10 +1,11 @@
 -- A rule as a line of text, with the names of its statements.
-use Rattle.std.specs.Prelude.{ℕ, List, [], ◌∷◌, ◌++◌, codes, decimal, slice_index_or}
+use Rattle.std.specs.Prelude.{◌≡◌, ℕ, List, [], ◌∷◌, ◌++◌, map, codes, decimal, slice_index_or}
 use Rattle.book.specs.Ledger.{Clause}
 use Rattle.book.specs.declared.rule.Head.{Head}
 use Rattle.book.specs.declared.rule.Head.TheVariants.{Statement, Bound}
 use Rattle.book.specs.declared.rule.Literal.{Literal}
 use Rattle.book.specs.declared.rule.Literal.TheVariants.{Plain, Above, Lacking}
+use Rattle.wording.specs.declared.rules.Line.{Line}
 
 -- the name of statement s; one that has no name is shown as a question mark
 abbrev pub name_of : List (List ℕ) → ℕ → List ℕ
@@ -27,3 +28,11 @@ head_text names (Bound d) weight = codes "bound " ++ (decimal d ++ (codes " " ++
 -- head and weight, and where there are literals a colon and the literals
 abbrev pub rule_text : List (List ℕ) → Clause → List ℕ
 rule_text names c = head_text names c.head c.weight ++ literals_text names (codes " : ") c.body
+
+-- the names that a line is written with
+abbrev pub names_of : Line → List (List ℕ)
+names_of l = map (λ x. x.now) l.names.now
+
+-- a text is put at the end of a line
+abbrev pub Gains : List ℕ → Line → Line → Type 0
+Gains text before after = (names_of after ≡ names_of before) × (after.text.items ≡ before.text.items ++ text)

@@ -1,106 +1,102 @@
 // A rule as a line of text, as a book's text has it.
-ghost use Rattle.std.specs.Prelude.{◌≡◌, ◌++◌, map, IfOk, codes, decimal, OnOk};
+ghost use Rattle.std.specs.Prelude.{◌≡◌, map, IfOk, codes, decimal, OnOk};
 ghost use Rattle.book.specs.Rows.{clause_of};
-ghost use Rattle.wording.specs.Wording.{name_of, literal_text, literals_text, head_text, rule_text};
+ghost use Rattle.wording.specs.Wording.{Gains, names_of, name_of, literal_text, literals_text, head_text, rule_text};
 
 use book::{Head, Literal, Rule};
 use std::alloc::{AllocError, Global};
-
-fn put(line: &mut Vec<u8>, bytes: &[u8]) -> Result<(), AllocError>
-    ensures { OnOk result (line.new.items ≡ line.old.items ++ bytes.now) }
-{
-    line.extend_from_slice(bytes)
-}
-
-fn put_number(heap: Global, line: &mut Vec<u8>, number: u8) -> Result<(), AllocError>
-    ensures { OnOk result (line.new.items ≡ line.old.items ++ decimal number) }
-{
-    let digits = number.to_string(heap)?;
-    put(line, digits.as_bytes())
-}
 
 // The name of a statement; one that has none goes by a question mark.
 pub fn name_of<'a>(names: &[&'a [u8]], statement: u8) -> &'a [u8]
     ensures { result.now ≡ name_of (map (λ x. x.now) names.now) statement }
 {
-    match names.get(usize::from(statement)) {
-        Some(name) => name,
-        None => b"?",
-    }
+    names.get(usize::from(statement)).copied().unwrap_or(b"?")
 }
 
-fn put_literal(
-    heap: Global,
-    line: &mut Vec<u8>,
-    names: &[&[u8]],
-    literal: Literal,
-) -> Result<(), AllocError>
-    ensures { OnOk result (line.new.items ≡ line.old.items ++ literal_text (map (λ x. x.now) names.now) literal) }
-{
-    match literal {
-        Literal::Plain(statement) => put(line, name_of(names, statement))?,
-        Literal::Above(statement, degree) => {
-            put(line, name_of(names, statement))?;
-            put(line, b" > ")?;
-            put_number(heap, line, degree)?;
-        }
-        Literal::Lacking(statement) => {
-            put(line, b"~")?;
-            put(line, name_of(names, statement))?;
-        }
-    }
-    Ok(())
+// A line that grows, and the names of the statements that it tells of.
+#[derive(Drop)]
+struct Line<'a> {
+    names: &'a [&'a [u8]],
+    text: Vec<u8>,
 }
 
-fn put_literals(
-    heap: Global,
-    line: &mut Vec<u8>,
-    names: &[&[u8]],
-    literals: &[Literal],
-) -> Result<(), AllocError>
-    ensures { OnOk result (line.new.items ≡ line.old.items ++ literals_text (map (λ x. x.now) names.now) (codes " : ") literals.now) }
-{
-    let mut lead: &[u8] = b" : ";
-    for literal in literals {
-        put(line, lead)?;
-        put_literal(heap, line, names, *literal)?;
-        lead = b", ";
+impl Line<'_> {
+    fn put(&mut self, bytes: &[u8]) -> Result<(), AllocError>
+        ensures { OnOk result (Gains bytes.now self.old self.new) }
+    {
+        self.text.extend_from_slice(bytes)
     }
-    Ok(())
-}
 
-fn put_head(
-    heap: Global,
-    line: &mut Vec<u8>,
-    names: &[&[u8]],
-    head: Head,
-    weight: u8,
-) -> Result<(), AllocError>
-    ensures { OnOk result (line.new.items ≡ line.old.items ++ head_text (map (λ x. x.now) names.now) head weight) }
-{
-    match head {
-        Head::Statement(statement) => {
-            put(line, b"rule ")?;
-            put_number(heap, line, weight)?;
-            put(line, b" ")?;
-            put(line, name_of(names, statement))?;
-        }
-        Head::Bound(degree) => {
-            put(line, b"bound ")?;
-            put_number(heap, line, degree)?;
-            put(line, b" ")?;
-            put_number(heap, line, weight)?;
+    fn put_number(&mut self, number: u8) -> Result<(), AllocError>
+        ensures { OnOk result (Gains (decimal number) self.old self.new) }
+    {
+        self.put(itoa::Buffer::new().format(number).as_bytes())
+    }
+
+    fn put_name(&mut self, statement: u8) -> Result<(), AllocError>
+        ensures { OnOk result (Gains (name_of (names_of self.old) statement) self.old self.new) }
+    {
+        self.put(name_of(self.names, statement))
+    }
+
+    fn put_literal(&mut self, literal: Literal) -> Result<(), AllocError>
+        ensures { OnOk result (Gains (literal_text (names_of self.old) literal) self.old self.new) }
+    {
+        match literal {
+            Literal::Plain(statement) => self.put_name(statement),
+            Literal::Above(statement, degree) => {
+                self.put_name(statement)?;
+                self.put(b" > ")?;
+                self.put_number(degree)
+            }
+            Literal::Lacking(statement) => {
+                self.put(b"~")?;
+                self.put_name(statement)
+            }
         }
     }
-    Ok(())
+
+    fn put_literals(&mut self, literals: &[Literal]) -> Result<(), AllocError>
+        ensures { OnOk result (Gains (literals_text (names_of self.old) (codes " : ") literals.now) self.old self.new) }
+    {
+        let mut lead: &[u8] = b" : ";
+        for literal in literals {
+            self.put(lead)?;
+            self.put_literal(*literal)?;
+            lead = b", ";
+        }
+        Ok(())
+    }
+
+    fn put_head(&mut self, head: Head, weight: u8) -> Result<(), AllocError>
+        ensures { OnOk result (Gains (head_text (names_of self.old) head weight) self.old self.new) }
+    {
+        match head {
+            Head::Statement(statement) => {
+                self.put(b"rule ")?;
+                self.put_number(weight)?;
+                self.put(b" ")?;
+                self.put_name(statement)
+            }
+            Head::Bound(degree) => {
+                self.put(b"bound ")?;
+                self.put_number(degree)?;
+                self.put(b" ")?;
+                self.put_number(weight)
+            }
+        }
+    }
 }
 
 // The rule as a line of a book's text, without the byte 10 that ends it; statement i goes by name i.
 pub fn rule_text(heap: Global, names: &[&[u8]], rule: &Rule) -> Result<Vec<u8>, AllocError>
     ensures { IfOk result (λ line. line.items ≡ rule_text (map (λ x. x.now) names.now) (clause_of rule.now)) }
 {
-    let mut line = Vec::new(heap);
-    put_head(heap, &mut line, names, rule.head, rule.weight)?;
-    put_literals(heap, &mut line, names, rule.body.literals())?;
-    Ok(line)
+    let mut line = Line {
+        names,
+        text: Vec::new(heap),
+    };
+    line.put_head(rule.head, rule.weight)?;
+    line.put_literals(rule.body.literals())?;
+    Ok(line.text)
 }
