@@ -1,5 +1,6 @@
 -- The calls on a book, as changes of its ledger: which causes each tests, in their order, and what it leaves.
-use Rattle.std.specs.Prelude.{ℕ, zero, suc, not, List, [], ◌∷◌, ◌++◌, length, take, drop, Option, nat_le, nat_lt}
+use Rattle.std.specs.Prelude.{ℕ, zero, suc, not, List, [], ◌∷◌, ◌++◌, length, Option, nat_le, nat_lt}
+use Rattle.std.specs.List.{remove}
 use Rattle.scale.specs.declared.refusal.Refusal.{Refusal}
 use Rattle.scale.specs.declared.refusal.Refusal.TheVariants.{BookSize, UnknownStatement, DegreeTooHigh, BodyTooLong, BookFull, NoSuchRule}
 use Rattle.scale.specs.Causes.{Cause, cause, first_met, left}
@@ -41,7 +42,7 @@ strike_refusal l i = first_met (cause (nat_le (length l.rules) i) NoSuchRule ∷
 
 -- rule i is gone, and the later rules move down by one
 abbrev pub struck : Ledger → ℕ → Ledger
-struck l i = left (strike_refusal l i) (with_rules l (take i l.rules ++ drop (suc i) l.rules)) l
+struck l i = left (strike_refusal l i) (with_rules l (remove l.rules i)) l
 
 abbrev pub reweigh_refusal : Ledger → ℕ → ℕ → Option Refusal
 reweigh_refusal l i weight =

@@ -44,6 +44,6 @@ impl Body {
     pub fn literals(&self) -> &[Literal]
         ensures { result.now ≡ literals_of self.now }
     {
-        &self.literals[0..self.len]
+        &self.literals[..self.len]
     }
 }

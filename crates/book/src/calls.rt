@@ -33,11 +33,10 @@ impl Book {
         ensures { IfOk result (λ b. ledger_of b ≡ empty 2 0) }
     {
         let rows = Vec::with_capacity(heap, MOST_RULES)?;
-        let table = RuleTable { rows };
         Ok(Book {
             levels: 2,
             statements: 0,
-            table,
+            table: RuleTable { rows },
         })
     }
 
@@ -61,7 +60,7 @@ impl Book {
         if i >= self.table.rows.len() {
             return Err(Refusal::NoSuchRule);
         }
-        let _ = self.table.rows.remove(i);
+        self.table.rows.remove(i);
         Ok(())
     }
 
