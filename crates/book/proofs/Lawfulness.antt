@@ -3,6 +3,7 @@ use Rattle.std.proofs.Common.{◌≡◌, ℕ, true, get_or, vec_items, arith}
 use Rattle.std.specs.List.{AllByRecursion}
 use Rattle.std.proofs.ByRecursion.{All-from_get_or, All-map}
 use Rattle.std.proofs.lemmas.List.{length-take}
+use Rattle.std.proofs.lemmas.List.Elements.{All-get_or}
 use Rattle.std.proofs.lemmas.Bool.{and_parts, le-leb}
 use Rattle.book.specs.Ledger.{Lawful, known, fits}
 use Rattle.book.specs.Rows.{clause_of, kept}
@@ -18,6 +19,6 @@ row_lawful levels statements r k =
 
 pub book_lawful : (b : Book) → AllByRecursion (Lawful b.levels b.statements) (ledger_of b).rules
 book_lawful b =
-    let rows = b.table.rows in
-    All-map (Lawful b.levels b.statements) clause_of (vec_items rows)
-    (All-from_get_or (λ r. Lawful b.levels b.statements (clause_of r)) (vec_items rows) blank (λ i h. row_lawful b.levels b.statements (get_or (vec_items rows) i blank) (b.lawful i blank (omega (arith, rows.ok.0)))))
+    let rows = vec_items b.table.rows in
+    All-map (Lawful b.levels b.statements) clause_of rows
+    (All-from_get_or (λ r. Lawful b.levels b.statements (clause_of r)) rows blank (λ i h. row_lawful b.levels b.statements (get_or rows i blank) (All-get_or (λ r. kept b.levels b.statements r ≡ true) rows i blank h b.lawful)))

@@ -1,12 +1,13 @@
 // The type of a book and what every book keeps.
-ghost use Rattle.std.specs.Prelude.{◌≡◌, ℕ, ◌<◌, ◌≤◌, true, vec_len, vec_capacity, slice_index_or};
+ghost use Rattle.std.specs.Prelude.{◌≤◌, vec_len, vec_capacity};
+ghost use Rattle.std.specs.List.{AllPass};
 ghost use Rattle.book.specs.Rows.{kept};
-ghost use Rattle.book.specs.declared.rows.Rule.{Rule};
 
 use super::table::RuleTable;
 
 // A rule book. Its rules keep within its levels and statements, and room for all the rules that it may
-// ever hold is reserved when it is created, so that no later call can fail for want of memory.
+// ever hold is reserved when it is created, so that no later call can fail for want of memory. Contracts see
+// it through `ledger_of`; it has no model, since proofs about its users read the facts that it keeps.
 #[derive(Drop)]
 pub struct Book {
     pub(crate) levels: u8,
@@ -17,5 +18,5 @@ pub struct Book {
     ghost few: { statements ≤ 16 },
     ghost short: { vec_len table.rows ≤ 64 },
     ghost room: { 64 ≤ vec_capacity table.rows },
-    ghost lawful: { (k : ℕ) (d : Rule) → k < vec_len table.rows → kept levels statements (slice_index_or table.rows.items k d) ≡ true },
+    ghost lawful: { AllPass (kept levels statements) table.rows.items },
 }
