@@ -1,4 +1,3 @@
-pub mod Degrees
 pub mod Digits
 pub mod Laying
 pub mod Numbers

@@ -1,5 +1,6 @@
 -- What writing a line answers and leaves.
-use Rattle.std.specs.Prelude.{ℕ, Bool, true, not, ◌&&◌, List, [], ◌∷◌, ◌++◌, length, drop, Option, nat_le, nat_lt}
+use Rattle.std.specs.Prelude.{ℕ, Bool, not, List, [], ◌∷◌, ◌++◌, length, drop, Option, nat_le, nat_lt}
+use Rattle.std.specs.List.{list_all}
 use Rattle.scale.specs.declared.refusal.Refusal.{Refusal}
 use Rattle.scale.specs.declared.refusal.Refusal.TheVariants.{DegreeTooHigh, PlaceLength}
 use Rattle.scale.specs.Causes.{cause, first_met, left}
@@ -8,8 +9,7 @@ use Rattle.output.specs.Spelling.{spelled, degrees_of}
 
 -- is every degree at most 63?
 abbrev pub all_degrees : List ℕ → Bool
-all_degrees [] = true
-all_degrees (d ∷ ds) = nat_le d 63 && all_degrees ds
+all_degrees degrees = list_all (λ degree. nat_le degree 63) degrees
 
 abbrev pub refusal_of : Line → List ℕ → Option Refusal
 refusal_of line place =

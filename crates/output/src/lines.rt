@@ -1,5 +1,5 @@
 // The lines of output.
-ghost use Rattle.std.specs.Prelude.{◌≡◌, ◌+◌, ◌≤◌, true, ◌++◌, length, take, drop, IfOk, nat_le};
+ghost use Rattle.std.specs.Prelude.{◌≡◌, ◌+◌, ◌≤◌, true, ◌++◌, length, take, drop, IfOk};
 ghost use Rattle.scale.specs.Causes.{answered};
 ghost use Rattle.output.specs.Places.{Puts};
 ghost use Rattle.output.specs.Reading.{numbers_in};
@@ -126,16 +126,5 @@ impl Cursor<'_> {
 fn all_degrees(degrees: &[u8]) -> bool
     ensures { result ≡ all_degrees degrees.now }
 {
-    for degree in degrees {
-        if !is_degree(*degree) {
-            return false;
-        }
-    }
-    true
-}
-
-fn is_degree(degree: u8) -> bool
-    ensures { result ≡ nat_le degree 63 }
-{
-    degree <= MOST_DEGREE
+    degrees.iter().all(|degree| *degree <= MOST_DEGREE)
 }
