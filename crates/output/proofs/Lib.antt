@@ -1,4 +1,1 @@
-pub mod Digits
-pub mod Laying
 pub mod Numbers
-pub mod Whole

@@ -1,8 +1,8 @@
 // Lines of output, written into a place that the caller gives.
 #![tactic(auto)]
 
-mod cursors;
 mod lines;
+mod texts;
 
 pub use lines::{Line, write_line};
 

@@ -1,12 +1,11 @@
 // The lines of output.
-ghost use Rattle.std.specs.Prelude.{◌≡◌, ◌+◌, ◌≤◌, true, ◌++◌, length, take, drop, IfOk};
+ghost use Rattle.std.specs.Prelude.{◌≡◌, ◌≤◌, true, length, take, IfOk};
 ghost use Rattle.scale.specs.Causes.{answered};
-ghost use Rattle.output.specs.Places.{Puts};
 ghost use Rattle.output.specs.Reading.{numbers_in};
-ghost use Rattle.output.specs.Spelling.{spelled, numbers_of, word_of, degrees_of};
+ghost use Rattle.output.specs.Spelling.{spelled, numbers_of, degrees_of};
 ghost use Rattle.output.specs.Writing.{all_degrees, refusal_of, written};
 
-use super::cursors::Cursor;
+use super::texts::{Text, push_degrees, push_number};
 use scale::Refusal;
 
 // The highest degree of any scale.
@@ -16,7 +15,7 @@ const MOST_DEGREE: u8 = 63;
 const MOST_DEGREES: usize = 16;
 
 // The least place that is taken, whatever the line: each line fits it.
-const LEAST_PLACE: usize = 96;
+pub(crate) const LEAST_PLACE: usize = 96;
 
 // What a line tells. No number is too large for its line: a scene's has at most 80 bytes, the count's 28 and a refusal's 64.
 #[derive(Clone, Copy)]
@@ -49,17 +48,6 @@ impl<'a> Line<'a> {
         Line::Refused { number, line, byte }
     }
 
-    // The word that the line begins with; a scene's line has none.
-    fn word(&self) -> &'static [u8]
-        ensures { result.now ≡ word_of self.now }
-    {
-        match self {
-            Line::Scene { .. } => b"",
-            Line::Count(_) => b"scenes ",
-            Line::Refused { .. } => b"refused ",
-        }
-    }
-
     fn degrees(&self) -> &'a [u8]
         ensures { result.now ≡ degrees_of self.now }
     {
@@ -67,6 +55,40 @@ impl<'a> Line<'a> {
             Line::Scene { degrees, .. } => degrees,
             _ => &[],
         }
+    }
+
+    fn text(&self) -> Text
+        requires { length (degrees_of self.now) ≤ 16 }
+        ensures bytes { result.bytes ≡ spelled self.now }
+        ensures read_back { all_degrees (degrees_of self.now) ≡ true → numbers_in (spelled self.now) ≡ numbers_of self.now }
+    {
+        let mut text = Text::new();
+        match *self {
+            Line::Scene {
+                position,
+                rounds,
+                degrees,
+            } => {
+                push_number(&mut text, position);
+                text.push_str(" ");
+                push_number(&mut text, rounds);
+                push_degrees(&mut text, degrees);
+            }
+            Line::Count(count) => {
+                text.push_str("scenes ");
+                push_number(&mut text, count);
+            }
+            Line::Refused { number, line, byte } => {
+                text.push_str("refused ");
+                push_number(&mut text, number);
+                text.push_str(" line ");
+                push_number(&mut text, line);
+                text.push_str(" byte ");
+                push_number(&mut text, byte);
+            }
+        }
+        text.push_str("\n");
+        text
     }
 }
 
@@ -83,43 +105,9 @@ pub fn write_line(line: &Line, place: &mut [u8]) -> Result<usize, Refusal>
     if degrees.len() > MOST_DEGREES || place.len() < LEAST_PLACE {
         return Err(Refusal::PlaceLength);
     }
-    Ok(write_fitting(line, place))
-}
-
-// Writes a line whose degrees are few and low, so that it fits.
-fn write_fitting(line: &Line, place: &mut [u8]) -> usize
-    requires room { 96 ≤ length place.old }
-    requires low { all_degrees (degrees_of line.now) ≡ true }
-    requires few { length (degrees_of line.now) ≤ 16 }
-    ensures answer { result ≡ length (spelled line.now) }
-    ensures after { place.new ≡ spelled line.now ++ drop (length (spelled line.now)) place.old }
-    ensures read_back { numbers_in (take result place.new) ≡ numbers_of line.now }
-{
-    let mut cursor = Cursor { place, at: 0 };
-    cursor.put_line(line);
-    cursor.at
-}
-
-impl Cursor<'_> {
-    fn put_line(&mut self, line: &Line)
-        requires room { self.old.at + 96 ≤ length self.old.place.now }
-        requires low { all_degrees (degrees_of line.now) ≡ true }
-        requires few { length (degrees_of line.now) ≤ 16 }
-        ensures puts { Puts (spelled line.now) self.old self.new }
-        ensures same { self.new.place.ghost_name ≡ self.old.place.ghost_name }
-        ensures reads { numbers_in (spelled line.now) ≡ numbers_of line.now }
-    {
-        self.put(line.word());
-        match *line {
-            Line::Scene {
-                position,
-                rounds,
-                degrees,
-            } => self.put_scene(position, rounds, degrees),
-            Line::Count(scenes) => self.put_count(scenes),
-            Line::Refused { number, line, byte } => self.put_refused(number, line, byte),
-        }
-    }
+    let text = line.text();
+    place[..text.len()].copy_from_slice(text.as_bytes());
+    Ok(text.len())
 }
 
 // Can a scale have each of these degrees?
