@@ -18,7 +18,7 @@ const MOST_DEGREES: usize = 16;
 pub(crate) const LEAST_PLACE: usize = 96;
 
 // What a line tells. No number is too large for its line: a scene's has at most 80 bytes, the count's 28 and a refusal's 64.
-#[derive(Clone, Copy)]
+#[derive(Clone, Copy, Debug, PartialEq, Eq)]
 pub enum Line<'a> {
     Scene {
         position: u64,
@@ -26,6 +26,7 @@ pub enum Line<'a> {
         degrees: &'a [u8],
     },
     Count(u64),
+    // The number is the one that is printed: any may be given, and a fault of reading, which no enum here has, gives its own.
     Refused {
         number: u8,
         line: usize,
@@ -34,14 +35,14 @@ pub enum Line<'a> {
 }
 
 impl<'a> Line<'a> {
-    // The line that ends a run. Callers make it here, since the borrow checker does not cover a variant that holds no slice.
+    // The line that ends a run.
     pub fn count_of(scenes: u64) -> Line<'a>
         ensures { result ≡ Line.Count scenes }
     {
         Line::Count(scenes)
     }
 
-    // The line of a refusal; made here for the same reason.
+    // The line of a refusal.
     pub fn refused_at(number: u8, line: usize, byte: usize) -> Line<'a>
         ensures { result ≡ Line.Refused number line byte }
     {
