@@ -8,6 +8,7 @@ pub mod Folds
 pub mod Gains
 pub mod Heights
 pub mod Parts
+pub mod Programs
 pub mod Raises
 pub mod Rounds
 pub mod Searching

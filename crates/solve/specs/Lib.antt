@@ -1,3 +1,4 @@
+pub mod Programs
 pub mod Raisings
 pub mod Ready
 pub mod Searches

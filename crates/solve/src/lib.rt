@@ -3,6 +3,7 @@
 
 mod judging;
 mod limits;
+mod program;
 mod raising;
 mod seeking;
 mod settings;
@@ -10,6 +11,7 @@ mod values;
 
 pub use judging::{Verdict, check, yield_at};
 pub use limits::most_rounds;
+pub use program::Program;
 pub use seeking::seek;
 pub use settings::setting_count;
 pub use values::rule_holds;

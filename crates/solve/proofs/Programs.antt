@@ -1,0 +1,52 @@
+-- The rules of a program are lawful.
+use Rattle.std.proofs.Common.{◌≡◌, ℕ, ◌<◌, Bool, true, false, List, [], ◌∷◌, map, length, get_or, MatchBool, refl, arith}
+use Rattle.std.proofs.ByRecursion.{All-get_or, All-from_get_or, All-map}
+use Rattle.std.proofs.lemmas.List.{length-take}
+use Rattle.std.proofs.lemmas.Bool.{and_parts, le-leb}
+use Rattle.std.specs.List.{list_all, AllWithin, HoldsAt}
+use Rattle.book.proofs.Reweighing.{blank}
+use Rattle.book.specs.Ledger.{Clause, Lawful, known, fits}
+use Rattle.book.specs.Rows.{clause_of, kept}
+use Rattle.book.specs.declared.rows.Rule.{Rule}
+use Rattle.theory.proofs.Lists.{all_from_map}
+use Rattle.theory.specs.Semantics.{AllByRecursion}
+
+row_lawful : (levels n : ℕ) (r : Rule) → kept levels n r ≡ true → Lawful levels n (clause_of r)
+row_lawful levels n r k =
+    let parts = and_parts (known n (clause_of r)) (fits levels (clause_of r)) k in
+    record { knows = parts.0; degrees = parts.1; short = le-leb _ 4 (omega (arith, length-take r.body.len r.body.literals, r.body.short)) }
+
+pub kept_lawful : (levels n : ℕ) (rows : List Rule) → list_all (kept levels n) rows ≡ true → AllByRecursion (λ r. Lawful levels n (clause_of r)) rows
+kept_lawful levels n [] e = tt
+kept_lawful levels n (r ∷ rows) e =
+    let parts = and_parts (kept levels n r) (list_all (kept levels n) rows) e in
+    (row_lawful levels n r parts.0, kept_lawful levels n rows parts.1)
+
+pub lawful_kept : (levels n : ℕ) (rows : List Rule) → AllByRecursion (Lawful levels n) (map clause_of rows) → list_all (kept levels n) rows ≡ true
+lawful_kept levels n [] h = refl
+lawful_kept levels n (r ∷ rows) h = rw (h.0.knows, h.0.degrees, lawful_kept levels n rows h.1) refl
+
+pub clauses_lawful : (levels n : ℕ) (rows : List Rule) → list_all (kept levels n) rows ≡ true → AllByRecursion (Lawful levels n) (map clause_of rows)
+clauses_lawful levels n rows e = All-map (Lawful levels n) clause_of rows (kept_lawful levels n rows e)
+
+-- what a test that needs a rule's degrees to fit says of a row that passes it, and of one that fails it
+abbrev pub Passes : ℕ → (Clause → Type 0) → Rule → Type 0
+Passes levels P r = fits levels (clause_of r) ≡ true → P (clause_of r)
+
+abbrev pub Fails : ℕ → (Clause → Type 0) → Rule → Type 0
+Fails levels P r = fits levels (clause_of r) ≡ true → P (clause_of r) → ⊥
+
+module _ (levels n : ℕ) (P : Clause → Type 0) (rows : List Rule) (kept_all : list_all (kept levels n) rows ≡ true) where
+  lawful : AllByRecursion (λ r. Lawful levels n (clause_of r)) rows
+  lawful = kept_lawful levels n rows kept_all
+
+  row_fits : (k : ℕ) (d : Rule) → k < length rows → fits levels (clause_of (get_or rows k d)) ≡ true
+  row_fits k d h = (All-get_or (λ r. Lawful levels n (clause_of r)) rows k d h lawful).degrees
+
+  -- a test of all rows decides whether P holds of every rule
+  pub decided : (r : Bool) → MatchBool r (AllWithin (Passes levels P) rows 0 (length rows)) ((k : ℕ) × (k < length rows) × HoldsAt (Fails levels P) rows k) → MatchBool r (AllByRecursion P (map clause_of rows)) (AllByRecursion P (map clause_of rows) → ⊥)
+  decided true passed =
+      All-map P clause_of rows (All-from_get_or (λ r. P (clause_of r)) rows blank (λ k h. passed k blank (omega arith) h (row_fits k blank h)))
+  decided false failed =
+      let k = failed.0 in
+      λ held. failed.2 blank (row_fits k blank failed.1) (All-get_or (λ r. P (clause_of r)) rows k blank failed.1 (all_from_map P clause_of rows held))

@@ -1,0 +1,15 @@
+-- What a program is made of: its scale's meaning, its rules in their order, and its number of statements.
+use Rattle.std.specs.Prelude.{ℕ, List, map}
+use Rattle.scale.specs.Meaning.{Meaning}
+use Rattle.book.specs.Ledger.{Clause}
+use Rattle.book.specs.Rows.{clause_of}
+use Rattle.solve.specs.declared.program.Program.{Program}
+
+abbrev pub meaning_of : {S : Type 0} {members : _} → Program S members → Meaning
+meaning_of {members = members} p = members.meaning p.scale.now
+
+abbrev pub clauses_of : {S : Type 0} {members : _} → Program S members → List Clause
+clauses_of p = map clause_of p.rules.now
+
+abbrev pub statements_of : {S : Type 0} {members : _} → Program S members → ℕ
+statements_of p = p.statements
