@@ -14,4 +14,4 @@ pub use limits::most_rounds;
 pub use program::Program;
 pub use seeking::seek;
 pub use settings::setting_count;
-pub use values::rule_holds;
+pub use values::{degree, rule_holds};

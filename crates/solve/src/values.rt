@@ -11,13 +11,10 @@ use book::{Head, Literal, Rule};
 use scale::Scale;
 
 // The degree of a statement; past the end of the row, 0.
-pub(crate) fn degree(row: &[u8], statement: u8) -> u8
+pub fn degree(row: &[u8], statement: u8) -> u8
     ensures { result ≡ at row.now statement }
 {
-    match row.get(usize::from(statement)) {
-        Some(degree) => *degree,
-        None => 0,
-    }
+    row.get(usize::from(statement)).copied().unwrap_or(0)
 }
 
 pub(crate) fn top<S: Scale>(scale: &S) -> u8
