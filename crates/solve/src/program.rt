@@ -14,6 +14,7 @@ use book::{Book, Head, Rule};
 use scale::{Refusal, Scale};
 
 // Rules and a scale that they are lawful on: each names only the program's statements and the scale's degrees.
+#[derive(Drop)]
 pub struct Program<'a, S: Scale> {
     pub(crate) scale: &'a S,
     pub(crate) rules: &'a [Rule],
