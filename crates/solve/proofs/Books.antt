@@ -1,30 +1,45 @@
--- What a book and a setting that passed the tests give to the inner functions.
-use Rattle.std.proofs.Common.{◌≡◌, ℕ, ◌<◌, true, ltb, List, map, length, sym, subst, ⊎_elim}
+-- What a call on a book gets from the program that it makes.
+use Rattle.std.proofs.Common.{◌≡◌, ℕ, ◌<◌, eqb, ltb, length, sym, ap, ◌∙◌, ⊎_elim, Bool, true, false, not, List, [], ◌∷◌, Ok, refl, subst, subst₂}
 use Rattle.std.proofs.lemmas.List.{get_or_past}
-use Rattle.std.proofs.lemmas.Bool.{cases_lt, ltb-true}
-use Rattle.scale.specs.Meaning.{Meaning}
-use Rattle.book.specs.Ledger.{Clause, Lawful}
+use Rattle.std.proofs.lemmas.Bool.{cases_lt, eqb-true, ltb-true}
 use Rattle.std.specs.List.{list_all}
-use Rattle.book.specs.Rows.{clause_of}
+use Rattle.scale.specs.Causes.{Answers, cause, first_met}
+use Rattle.scale.specs.declared.refusal.Refusal.TheVariants.{LevelsDiffer}
+use Rattle.scale.specs.Meaning.{Meaning}
+use Rattle.book.specs.Ledger.{Clause, Ledger, Lawful}
 use Rattle.book.specs.View.{ledger_of}
 use Rattle.book.specs.declared.books.Book.{Book}
-use Rattle.book.specs.declared.rows.Rule.{Rule}
-use Rattle.book.proofs.Every.{every_at}
 use Rattle.book.proofs.Lawfulness.{book_lawful}
-use Rattle.theory.specs.Semantics.{AllByRecursion, at}
-use Rattle.theory.proofs.Lists.{all_from_map}
-use Rattle.solve.specs.Ready.{Rules}
+use Rattle.book.proofs.Every.{every_at}
+use Rattle.theory.specs.Semantics.{AllByRecursion, Setting, at}
+use Rattle.solve.specs.Programs.{ProgramOf, meaning_of, clauses_of, statements_of}
+use Rattle.solve.specs.declared.program.Program.{Program}
+
+-- a book's rules are lawful on a scale of the book's levels
+pub scale_lawful : (m : Meaning) (b : Book) → m.levels ≡ b.levels → AllByRecursion (Lawful m.levels b.statements) (ledger_of b).rules
+scale_lawful m b levels = subst (λ (k : ℕ). AllByRecursion (Lawful k b.statements) (ledger_of b).rules) (sym levels) (book_lawful b)
+
+-- a program is made only on a scale of the book's levels
+pub made : {A : Type 0} (same : Bool) (P : A → Type 0) (p : A) → Answers (first_met (cause (not same) LevelsDiffer ∷ [])) (Ok p) P → (same ≡ true) × P p
+made true P p h = (refl, h)
+made false P p h = cc
+
+-- what holds of a program holds of the scale and the book that it was made of
+pub of_book : {S : Type 0} {members : _} (scale : S) (l : Ledger) (p : Program S members) → ProgramOf scale l p → (P : Meaning → List Clause → ℕ → Type 0) → P (meaning_of p) (clauses_of p) (statements_of p) → P (members.meaning scale) l.rules l.statements
+of_book {S} {members} scale l p of P h = subst₂ (λ (cs : List Clause) (n : ℕ). P (members.meaning scale) cs n) of.1 of.2 (subst (λ (s : S). P (members.meaning s) (clauses_of p) (statements_of p)) of.0 h)
+
+-- a program's scale has the book's levels
+pub program_levels : {S : Type 0} {members : _} (scale : S) (l : Ledger) (p : Program S members) → ProgramOf scale l p → eqb (members.meaning scale).levels l.levels ≡ true → (meaning_of p).levels ≡ l.levels
+program_levels {S} {members} scale l p of same = ap (λ (s : S). (members.meaning s).levels) of.0 ∙ eqb-true _ _ same
 
 pub degrees_from : (levels : ℕ) (row : List ℕ) → 0 < levels → list_all (λ d. ltb d levels) row ≡ true → (s : ℕ) → at row s < levels
 degrees_from levels row some passed s =
     ⊎_elim (λ h. ltb-true (at row s) levels (every_at (λ d. ltb d levels) row s 0 passed h)) (λ h. subst (λ (x : ℕ). x < levels) (sym (get_or_past row s 0 h)) some)
     (cases_lt s (length row))
 
--- a book's rules are lawful on a scale of the book's levels
-pub scale_lawful : (m : Meaning) (b : Book) → m.levels ≡ b.levels → AllByRecursion (Lawful m.levels b.statements) (ledger_of b).rules
-scale_lawful m b levels = subst (λ (k : ℕ). AllByRecursion (Lawful k b.statements) (ledger_of b).rules) (sym levels) (book_lawful b)
-
-pub ready_rules : (m : Meaning) (n : ℕ) (b : Book) (rows : List Rule) → map clause_of rows ≡ (ledger_of b).rules → m.levels ≡ b.levels → n ≡ b.statements → Rules m n rows
-ready_rules m n b rows is levels statements =
-    let lawful : AllByRecursion (Lawful m.levels n) (ledger_of b).rules = subst (λ (k : ℕ). AllByRecursion (Lawful m.levels k) (ledger_of b).rules) (sym statements) (scale_lawful m b levels) in
-    all_from_map (Lawful m.levels n) clause_of rows (subst (λ (cs : List Clause). AllByRecursion (Lawful m.levels n) cs) (sym is) lawful)
+-- a row that passed the tests is a setting
+pub tested : (m : Meaning) (n levels : ℕ) (row : List ℕ) → m.levels ≡ levels → 0 < m.levels → list_all (λ d. ltb d levels) row ≡ true → length row ≡ n → Setting m n row
+tested m n levels row is some passed long = record {
+  long = long;
+  degrees = degrees_from m.levels row some (subst (λ (k : ℕ). list_all (λ d. ltb d k) row ≡ true) (sym is) passed);
+}

@@ -1,22 +1,10 @@
--- Powers of the levels, and the loop that writes a position's digits from the last.
-use Rattle.std.proofs.Common.{◌≡◌, ℕ, zero, suc, ◌+◌, ◌-◌, ◌*◌, ◌/◌, ◌%◌, ◌^◌, ◌<◌, ◌≤◌, List, length, drop, set, sym, ap, ◌∙◌, subst, ap₂, ⊎_elim, mod-lt, pow-suc, add-one, arith}
-use native.Mathlib.Nat.{pow-succ', pow-le-pow_right, mod-add-div, pow-zero, sub_self, sub-zero}
+-- The loop that writes a position's digits from the last.
+use Rattle.std.proofs.Common.{◌≡◌, ℕ, zero, suc, ◌+◌, ◌-◌, ◌*◌, ◌/◌, ◌%◌, ◌^◌, ◌<◌, ◌≤◌, List, length, drop, set, sym, ap, ◌∙◌, subst, ap₂, ⊎_elim, mod-lt, arith}
+use native.Mathlib.Nat.{pow-succ', mod-add-div, pow-zero, sub_self, sub-zero}
 use Rattle.std.proofs.lemmas.List.{drop_all, drop-set, get_or_past, length-drop, length-set, get_or-set_same, get_or-set_other}
 use Rattle.std.proofs.lemmas.Bool.{cases_eq}
 use Rattle.theory.specs.Position.{position}
 use Rattle.theory.specs.Semantics.{at}
-
--- one factor more
-pub power_more : (levels k : ℕ) → levels ^ k * levels ≡ levels ^ (k + 1)
-power_more levels k = sym (ap (λ (j : ℕ). levels ^ j) (add-one k) ∙ pow-suc levels k)
-
-pub power_grows : (levels k n : ℕ) → 1 ≤ levels → k ≤ n → levels ^ k ≤ levels ^ n
-power_grows levels k n some h = pow-le-pow_right some h
-
--- a product over something has a factor that is not 0
-pub factor_some : (a b most : ℕ) → most < a * b → 1 ≤ b
-factor_some a zero most h = absurd (omega (arith, h))
-factor_some a (suc b) most h = omega arith
 
 -- a number is its last digit and the rest of its digits, at any unit
 split : (digit others levels unit whole : ℕ) → digit + levels * others ≡ whole → digit * unit + others * (levels * unit) ≡ whole * unit

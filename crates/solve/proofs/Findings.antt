@@ -1,8 +1,8 @@
 -- From what the loops found in the rows of a table to the verdict on its rules.
-use Rattle.std.proofs.Common.{◌≡◌, ℕ, false, List, map, length, get_or, take, Some, None, sym, ap, ◌∙◌, subst, arith}
+use Rattle.std.proofs.Common.{◌≡◌, ℕ, ◌<◌, List, map, length, get_or, take, Some, None, Option, is_none, Bool, MatchBool, MatchOption, sym, ap, ◌∙◌, subst, arith}
 use Rattle.std.proofs.ByRecursion.{All-get_or, All-map}
 use Rattle.std.proofs.lemmas.List.{length-map, get_or-map, take-map}
-use Rattle.std.proofs.lemmas.Bool.{both_ways}
+use Rattle.std.proofs.lemmas.Bool.{both_ways, false_from_ne_true}
 use Rattle.scale.specs.Meaning.{Meaning}
 use Rattle.book.specs.Ledger.{Clause}
 use Rattle.book.specs.Rows.{clause_of}
@@ -14,6 +14,10 @@ use Rattle.solve.specs.Ready.{FirstDifference}
 use Rattle.solve.specs.Verdicts.{HoldsAt, FirstBreach, FirstBroken, FirstUnsupported}
 
 module _ (m : Meaning) (rows : List Rule) (row : List ℕ) where
+  pub first_breach : (r : Option ℕ) → MatchOption r (AllByRecursion (λ x. HoldsAt m row (clause_of x)) rows) (λ i. (i < length rows) × ((d : Rule) → HoldsAt m row (clause_of (get_or rows i d)) → ⊥) × AllByRecursion (λ x. HoldsAt m row (clause_of x)) (take i rows)) → FirstBreach m rows row r
+  first_breach None held = held
+  first_breach (Some i) found = (found.0, λ d. false_from_ne_true _ (found.1 d), found.2)
+
   pub all_hold : FirstBreach m rows row None → AllByRecursion (HoldsAt m row) (map clause_of rows)
   all_hold held = All-map (HoldsAt m row) clause_of rows held
 
@@ -21,21 +25,25 @@ module _ (m : Meaning) (rows : List Rule) (row : List ℕ) where
   breach_refutes {i} breach held =
       both_ways (holds m (at row) (at row) (clause_of (get_or rows i blank))) (breach.1 blank) (All-get_or (λ r. HoldsAt m row (clause_of r)) rows i blank breach.0 (all_from_map (HoldsAt m row) clause_of rows held))
 
-  pub first_from_breach : (i d : ℕ) (r : Rule) → r ≡ get_or rows i r → FirstBreach m rows row (Some i) → d ≡ m.residuum (body_value m (at row) (at row) (clause_of r).body) (head_value (at row) r.head) → FirstBroken m (map clause_of rows) row i d
-  first_from_breach i d r read breach residuum =
-      let P : Rule → Type 0 = λ x. holds m (at row) (at row) (clause_of x) ≡ false in
-      record {
-        rule = clause_of r;
-        there = let size = length-map rows clause_of in omega (arith, breach.0);
-        is = get_or-map clause_of rows i r (clause_of r) breach.0 ∙ ap clause_of (sym read);
-        breaks = subst P (sym read) (breach.1 r);
-        before = subst (λ (cs : List Clause). AllByRecursion (HoldsAt m row) cs) (sym (take-map clause_of i rows)) (All-map (HoldsAt m row) clause_of (take i rows) breach.2);
-        residuum = residuum;
-      }
+  -- no rule is broken exactly when all hold
+  pub none_broken : (found : Option ℕ) (none : Bool) → none ≡ is_none found → FirstBreach m rows row found → MatchBool none (AllByRecursion (HoldsAt m row) (map clause_of rows)) (AllByRecursion (HoldsAt m row) (map clause_of rows) → ⊥)
+  none_broken None none e held = subst (λ (b : Bool). MatchBool b (AllByRecursion (HoldsAt m row) (map clause_of rows)) (AllByRecursion (HoldsAt m row) (map clause_of rows) → ⊥)) (sym e) (all_hold held)
+  none_broken (Some i) none e breach = subst (λ (b : Bool). MatchBool b (AllByRecursion (HoldsAt m row) (map clause_of rows)) (AllByRecursion (HoldsAt m row) (map clause_of rows) → ⊥)) (sym e) (breach_refutes breach)
 
-  pub first_unsupported : (r s : ℕ) {least : List ℕ} → FirstBreach m rows row None → Rounds m (map clause_of rows) (length row) row r → least ≡ raised m (map clause_of rows) (length row) row r → length least ≡ length row → FirstDifference least row (Some s) → FirstUnsupported m (map clause_of rows) (length row) row s (at least s)
+  pub first_from_breach : (i d : ℕ) (r : Rule) → FirstBreach m rows row (Some i) → d ≡ m.residuum (body_value m (at row) (at row) (clause_of (get_or rows i r)).body) (head_value (at row) (get_or rows i r).head) → FirstBroken m (map clause_of rows) row i d
+  first_from_breach i d r breach residuum = record {
+    rule = clause_of (get_or rows i r);
+    there = let size = length-map rows clause_of in omega (arith, breach.0);
+    is = get_or-map clause_of rows i r (clause_of (get_or rows i r)) breach.0;
+    breaks = breach.1 r;
+    before = subst (λ (cs : List Clause). AllByRecursion (HoldsAt m row) cs) (sym (take-map clause_of i rows)) (All-map (HoldsAt m row) clause_of (take i rows) breach.2);
+    residuum = residuum;
+  }
+
+module _ (m : Meaning) (cs : List Clause) (n : ℕ) (row : List ℕ) where
+  pub first_unsupported : (r s : ℕ) {least : List ℕ} → AllByRecursion (HoldsAt m row) cs → Rounds m cs n row r → least ≡ raised m cs n row r → length least ≡ n → FirstDifference least row (Some s) → FirstUnsupported m cs n row s (at least s)
   first_unsupported r s {least} held rounds is long found = record {
-    satisfied = all_hold held;
+    satisfied = held;
     r = r;
     rounds = rounds;
     there = omega (arith, found.0);

@@ -48,6 +48,6 @@ module _ (m : Meaning) (n : ℕ) (rows : List Rule) (lawful : Rules m n rows) wh
   rules_within = all_within m.levels n (map clause_of rows) rules_lawful
 
 -- the demand of the rows that are left is a degree
-pub gains_degree : {m : Meaning} (laws : Laws m) (n : ℕ) {l u : ℕ → ℕ} → Degrees m l → Degrees m u → (rows : List Rule) → Rules m n rows → (s i : ℕ) → gains m l u s (drop i rows) < m.levels
+gains_degree : {m : Meaning} (laws : Laws m) (n : ℕ) {l u : ℕ → ℕ} → Degrees m l → Degrees m u → (rows : List Rule) → Rules m n rows → (s i : ℕ) → gains m l u s (drop i rows) < m.levels
 gains_degree {m} laws n dl du rows lawful s i =
     gain_degree laws n dl du (map clause_of (drop i rows)) (rules_within m n (drop i rows) (All-drop (λ r. Lawful m.levels n (clause_of r)) i rows lawful)) s

@@ -1,7 +1,7 @@
 -- The rules of a program are lawful.
-use Rattle.std.proofs.Common.{◌≡◌, ℕ, ◌<◌, Bool, true, false, List, [], ◌∷◌, map, length, get_or, MatchBool, refl, arith}
+use Rattle.std.proofs.Common.{◌≡◌, ℕ, ◌<◌, Bool, true, false, List, [], ◌∷◌, map, length, get_or, take, Some, None, Option, MatchBool, MatchOption, refl, sym, subst, arith}
 use Rattle.std.proofs.ByRecursion.{All-get_or, All-from_get_or, All-map}
-use Rattle.std.proofs.lemmas.List.{length-take}
+use Rattle.std.proofs.lemmas.List.{length-take, get_or-take}
 use Rattle.std.proofs.lemmas.Bool.{and_parts, le-leb}
 use Rattle.std.specs.List.{list_all, AllWithin, HoldsAt}
 use Rattle.book.proofs.Reweighing.{blank}
@@ -9,6 +9,7 @@ use Rattle.book.specs.Ledger.{Clause, Lawful, known, fits}
 use Rattle.book.specs.Rows.{clause_of, kept}
 use Rattle.book.specs.declared.rows.Rule.{Rule}
 use Rattle.theory.proofs.Lists.{all_from_map}
+use Rattle.theory.proofs.Ranges.{Within, all_within}
 use Rattle.theory.specs.Semantics.{AllByRecursion}
 
 row_lawful : (levels n : ℕ) (r : Rule) → kept levels n r ≡ true → Lawful levels n (clause_of r)
@@ -28,6 +29,9 @@ lawful_kept levels n (r ∷ rows) h = rw (h.0.knows, h.0.degrees, lawful_kept le
 
 pub clauses_lawful : (levels n : ℕ) (rows : List Rule) → list_all (kept levels n) rows ≡ true → AllByRecursion (Lawful levels n) (map clause_of rows)
 clauses_lawful levels n rows e = All-map (Lawful levels n) clause_of rows (kept_lawful levels n rows e)
+
+pub clauses_within : (levels n : ℕ) (rows : List Rule) → list_all (kept levels n) rows ≡ true → AllByRecursion (Within levels n) (map clause_of rows)
+clauses_within levels n rows e = all_within levels n (map clause_of rows) (clauses_lawful levels n rows e)
 
 -- what a test that needs a rule's degrees to fit says of a row that passes it, and of one that fails it
 abbrev pub Passes : ℕ → (Clause → Type 0) → Rule → Type 0
@@ -50,3 +54,11 @@ module _ (levels n : ℕ) (P : Clause → Type 0) (rows : List Rule) (kept_all :
   decided false failed =
       let k = failed.0 in
       λ held. failed.2 blank (row_fits k blank failed.1) (All-get_or (λ r. P (clause_of r)) rows k blank failed.1 (all_from_map P clause_of rows held))
+
+  -- the first row that failed a test is the first whose rule lacks P
+  pub first_lacking : (r : Option ℕ) → MatchOption r (AllWithin (Passes levels P) rows 0 (length rows)) (λ i. (i < length rows) × HoldsAt (Fails levels P) rows i × AllWithin (Passes levels P) rows 0 i) → MatchOption r (AllByRecursion (λ x. P (clause_of x)) rows) (λ i. (i < length rows) × ((d : Rule) → P (clause_of (get_or rows i d)) → ⊥) × AllByRecursion (λ x. P (clause_of x)) (take i rows))
+  first_lacking None passed = All-from_get_or (λ x. P (clause_of x)) rows blank (λ k h. passed k blank (omega arith) h (row_fits k blank h))
+  first_lacking (Some i) found =
+      let front : (k : ℕ) → k < length (take i rows) → P (clause_of (get_or (take i rows) k blank)) =
+      λ k h. let short : k < i = omega (arith, length-take i rows) in subst (λ (x : Rule). P (clause_of x)) (sym (get_or-take i rows k blank short)) (found.2 k blank (omega arith) short (row_fits k blank (omega (arith, found.0)))) in
+      (found.0, λ d. found.1 d (row_fits i d found.0), All-from_get_or (λ x. P (clause_of x)) (take i rows) blank front)

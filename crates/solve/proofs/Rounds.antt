@@ -1,8 +1,10 @@
 -- Raising goes on for at most statements × height rounds.
-use Rattle.std.proofs.Common.{◌≡◌, ℕ, suc, ◌+◌, ◌-◌, ◌*◌, ◌<◌, ◌≤◌, List, take, replicate, sym, ap, ◌∙◌, ⊎_elim, mul-le-mul, arith, below_more}
+use Rattle.std.proofs.Common.{◌≡◌, ℕ, true, false, suc, ◌+◌, ◌-◌, ◌*◌, ◌<◌, ◌≤◌, List, length, take, replicate, sym, ap, ◌∙◌, ⊎_elim, mul-le-mul, arith, below_more}
 use native.Mathlib.Nat.{sub-zero}
+use Rattle.std.proofs.lemmas.Slice.Eq.{bytes_eq-Decides}
+use Rattle.std.specs.Str.{bytes_eq}
 use Rattle.std.proofs.lemmas.List.{take-replicate}
-use Rattle.std.proofs.lemmas.Bool.{cases_order}
+use Rattle.std.proofs.lemmas.Bool.{cases_order, true≢false}
 use Rattle.scale.specs.Meaning.{Meaning, Laws}
 use Rattle.book.specs.Ledger.{Clause}
 use Rattle.theory.specs.Semantics.{AllByRecursion, at, raise, raised}
@@ -39,3 +41,14 @@ few_rounds {m} laws n h =
 -- the front of a row that is 0 everywhere
 pub zeros_front : (n : ℕ) → n ≤ 16 → take {A = ℕ} (n - 0) (replicate 16 0) ≡ replicate n 0
 zeros_front n h = rw sub-zero (take-replicate n 16 0 h)
+
+-- the same, as long as another row
+pub zeros_under : (n : ℕ) (row : List ℕ) → length row ≡ n → n ≤ 16 → take {A = ℕ} (length row) (replicate 16 0) ≡ replicate n 0
+zeros_under n row long h = ap (λ (k : ℕ). take k (replicate 16 0)) long ∙ take-replicate n 16 0 h
+
+-- rows that do not test equal are two
+pub rows_apart : (a b : List ℕ) → false ≡ bytes_eq a b → a ≡ b → ⊥
+rows_apart a b e same = true≢false (sym ((bytes_eq-Decides a b).1 same) ∙ sym e)
+
+pub rows_alike : (a b : List ℕ) → true ≡ bytes_eq a b → a ≡ b
+rows_alike a b e = (bytes_eq-Decides a b).0 (sym e)

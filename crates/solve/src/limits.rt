@@ -3,6 +3,7 @@ ghost use Rattle.scale.specs.Causes.{Answers};
 ghost use Rattle.book.specs.View.{ledger_of};
 ghost use Rattle.solve.specs.Raisings.{most_rounds_refusal, Raisings};
 
+use super::program::Program;
 use book::Book;
 use scale::{Refusal, Scale};
 
@@ -11,8 +12,6 @@ use scale::{Refusal, Scale};
 pub fn most_rounds<S: Scale>(scale: &S, book: &Book) -> Result<u32, Refusal>
     ensures { Answers (most_rounds_refusal (S.meaning scale.now) (ledger_of book.now)) result (Raisings (S.meaning scale.now) (ledger_of book.now).rules (ledger_of book.now).statements) }
 {
-    if scale.levels() != book.levels() {
-        return Err(Refusal::LevelsDiffer);
-    }
-    Ok(u32::from(book.statements()) * u32::from(scale.height()))
+    let program = Program::new(scale, book)?;
+    Ok(u32::from(program.statements) * u32::from(scale.height()))
 }

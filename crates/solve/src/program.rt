@@ -18,18 +18,18 @@ use scale::{Refusal, Scale};
 pub struct Program<'a, S: Scale> {
     pub(crate) scale: &'a S,
     pub(crate) rules: &'a [Rule],
-    pub(crate) statements: usize,
+    pub(crate) statements: u8,
     ghost some: { 2 ≤ (S.meaning scale.now).levels },
     ghost few: { statements ≤ 16 },
     ghost lawful: { list_all (kept (S.meaning scale.now).levels statements) rules.now ≡ true },
 }
 
 impl<'a, S: Scale> Program<'a, S> {
-    ghost use Rattle.solve.specs.Programs.{meaning_of, clauses_of, statements_of};
+    ghost use Rattle.solve.specs.Programs.{ProgramOf, meaning_of, clauses_of};
 
     // The rules of a book, on a scale of the book's levels.
     pub fn new(scale: &'a S, book: &'a Book) -> Result<Program<'a, S>, Refusal>
-        ensures { Answers (most_rounds_refusal (S.meaning scale.now) (ledger_of book.now)) result (λ p. (p.scale.now ≡ scale.now) × (clauses_of p ≡ (ledger_of book.now).rules) × (statements_of p ≡ (ledger_of book.now).statements)) }
+        ensures { Answers (most_rounds_refusal (S.meaning scale.now) (ledger_of book.now)) result (ProgramOf scale.now (ledger_of book.now)) }
     {
         if scale.levels() != book.levels() {
             return Err(Refusal::LevelsDiffer);
@@ -37,7 +37,7 @@ impl<'a, S: Scale> Program<'a, S> {
         Ok(Program {
             scale,
             rules: book.rules(),
-            statements: usize::from(book.statements()),
+            statements: book.statements(),
         })
     }
 
@@ -45,9 +45,7 @@ impl<'a, S: Scale> Program<'a, S> {
     pub fn all_hold(&self, row: &[u8]) -> bool
         ensures { Degrees (meaning_of self.now) row.now → MatchBool result (AllByRecursion (HoldsAt (meaning_of self.now) row.now) (clauses_of self.now)) (AllByRecursion (HoldsAt (meaning_of self.now) row.now) (clauses_of self.now) → ⊥) }
     {
-        self.rules
-            .iter()
-            .all(|rule| rule_holds(self.scale, rule, row, row))
+        self.first_broken(row).is_none()
     }
 
     // Do the rules with a statement for their head hold at a lower and an upper row of degrees?

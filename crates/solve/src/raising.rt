@@ -1,23 +1,59 @@
 // Raising a lower row under an upper one, and the least model where raising stands still.
-ghost use Rattle.std.specs.Prelude.{◌≡◌, ◌≤◌, map, length, MatchBool, ◌≢◌};
-ghost use Rattle.book.specs.Rows.{clause_of};
-ghost use Rattle.theory.specs.Semantics.{raise, raised, Rounds};
-ghost use Rattle.solve.specs.Ready.{Degrees, Rules, FirstDifference};
+ghost use Rattle.std.specs.Prelude.{◌≡◌, length};
+ghost use Rattle.theory.specs.Semantics.{at, Setting, gain, raise, raised, Rounds};
+ghost use Rattle.solve.specs.Programs.{meaning_of, clauses_of, statements_of};
+ghost use Rattle.solve.specs.Ready.{Degrees, FirstDifference};
 
-use super::values::gain_of;
-use book::Rule;
+use super::program::Program;
+use super::values::rule_share;
 use scale::Scale;
 
 // The most statements that a book may have, and so the longest row.
 pub(crate) const MOST_STATEMENTS: usize = 16;
 
-// Writes one raising of `lower` under `upper` to `next`.
-fn raise<S: Scale>(scale: &S, rules: &[Rule], upper: &[u8], lower: &[u8], next: &mut [u8])
-    requires { (Degrees (S.meaning scale.now) lower.now) × ((Degrees (S.meaning scale.now) upper.now) × ((Rules (S.meaning scale.now) (length upper.now) rules.now) × (length next.old ≡ length upper.now))) }
-    ensures { next.new ≡ raise (S.meaning scale.now) (map clause_of rules.now) (length upper.now) upper.now lower.now }
-{
-    for statement in 0..upper.len() {
-        next[statement] = gain_of(scale, rules, statement, lower, upper);
+impl<'a, S: Scale> Program<'a, S> {
+    // The join of what all rules demand of a statement.
+    pub(crate) fn gain(&self, statement: usize, lower: &[u8], upper: &[u8]) -> u8
+        requires lower { Degrees (meaning_of self.now) lower.now }
+        requires upper { Degrees (meaning_of self.now) upper.now }
+        ensures { result ≡ gain (meaning_of self.now) (at lower.now) (at upper.now) (clauses_of self.now) statement }
+    {
+        self.rules.iter().fold(0, |gain, rule| {
+            self.scale.join(gain, rule_share(self.scale, rule, statement, lower, upper))
+        })
+    }
+
+    // Writes one raising of `lower` under `upper` to `next`.
+    fn raise(&self, upper: &[u8], lower: &[u8], next: &mut [u8])
+        requires upper { Setting (meaning_of self.now) (statements_of self.now) upper.now }
+        requires lower { Setting (meaning_of self.now) (statements_of self.now) lower.now }
+        requires room { length next.old ≡ statements_of self.now }
+        ensures { next.new ≡ raise (meaning_of self.now) (clauses_of self.now) (statements_of self.now) upper.now lower.now }
+    {
+        for (statement, degree) in next.iter_mut().enumerate() {
+            *degree = self.gain(statement, lower, upper);
+        }
+    }
+
+    // Writes the least model under `upper` to `lower`, and answers after how many rounds raising stands still there.
+    pub(crate) fn least_model(&self, upper: &[u8], lower: &mut [u8]) -> u32
+        requires upper { Setting (meaning_of self.now) (statements_of self.now) upper.now }
+        requires room { length lower.old ≡ statements_of self.now }
+        ensures rounds { Rounds (meaning_of self.now) (clauses_of self.now) (statements_of self.now) upper.now result }
+        ensures after { lower.new ≡ raised (meaning_of self.now) (clauses_of self.now) (statements_of self.now) upper.now result }
+    {
+        let mut row = [0; MOST_STATEMENTS];
+        let next = &mut row[..upper.len()];
+        lower.copy_from_slice(next);
+        let mut rounds = 0;
+        loop {
+            self.raise(upper, lower, next);
+            if *next == *lower {
+                return rounds;
+            }
+            lower.copy_from_slice(next);
+            rounds += 1;
+        }
     }
 }
 
@@ -26,45 +62,5 @@ pub(crate) fn first_difference(a: &[u8], b: &[u8]) -> Option<usize>
     requires { length a.now ≡ length b.now }
     ensures { FirstDifference a.now b.now result }
 {
-    for statement in 0..a.len() {
-        if a[statement] != b[statement] {
-            return Some(statement);
-        }
-    }
-    None
-}
-
-pub(crate) fn same(a: &[u8], b: &[u8]) -> bool
-    requires { length a.now ≡ length b.now }
-    ensures { MatchBool result (a.now ≡ b.now) (a.now ≢ b.now) }
-{
-    match first_difference(a, b) {
-        None => true,
-        Some(_) => false,
-    }
-}
-
-// Writes the least model under `upper` to `lower`, and answers after how many rounds raising stands still there.
-pub(crate) fn least_model<S: Scale>(
-    scale: &S,
-    rules: &[Rule],
-    upper: &[u8],
-    lower: &mut [u8],
-) -> u32
-    requires { (Degrees (S.meaning scale.now) upper.now) × ((Rules (S.meaning scale.now) (length upper.now) rules.now) × ((length lower.old ≡ length upper.now) × (length upper.now ≤ 16))) }
-    ensures rounds { Rounds (S.meaning scale.now) (map clause_of rules.now) (length upper.now) upper.now result }
-    ensures after { lower.new ≡ raised (S.meaning scale.now) (map clause_of rules.now) (length upper.now) upper.now result }
-{
-    let mut row = [0; MOST_STATEMENTS];
-    let next = &mut row[0..upper.len()];
-    lower.copy_from_slice(next);
-    let mut rounds = 0;
-    loop {
-        raise(scale, rules, upper, lower, next);
-        if same(next, lower) {
-            return rounds;
-        }
-        lower.copy_from_slice(next);
-        rounds += 1;
-    }
+    a.iter().zip(b).position(|(x, y)| x != y)
 }

@@ -7,18 +7,9 @@ ghost use Rattle.solve.specs.Ready.{AllBelow};
 pub fn setting_count(levels: u8, statements: u8, most: u32) -> Option<u64>
     ensures { MatchOption result (most < levels ^ statements) (λ n. (n ≡ levels ^ statements) × (n ≤ most)) }
 {
-    let mut count = 1;
-    for _ in 0..statements {
-        count *= u64::from(levels);
-        if count > u64::from(most) {
-            return None;
-        }
-    }
-    if count > u64::from(most) {
-        None
-    } else {
-        Some(count)
-    }
+    u64::from(levels)
+        .checked_pow(u32::from(statements))
+        .filter(|count| *count <= u64::from(most))
 }
 
 // Writes the setting of a position: its digits in base `levels`, the last statement's the lowest.
@@ -29,9 +20,7 @@ pub(crate) fn write_setting(row: &mut [u8], levels: u8, place: u64)
 {
     let base = u64::from(levels);
     let mut rest = place;
-    let mut statement = row.len();
-    while statement > 0 {
-        statement -= 1;
+    for statement in (0..row.len()).rev() {
         row[statement] = (rest % base) as u8;
         rest /= base;
     }

@@ -1,11 +1,11 @@
 // What literals, bodies and rules are worth at a lower and an upper row of degrees.
-ghost use Rattle.std.specs.Prelude.{◌≡◌, ◌<◌, true, map, length};
+ghost use Rattle.std.specs.Prelude.{◌≡◌, ◌<◌, true};
 ghost use Rattle.scale.specs.Meaning.{top};
 ghost use Rattle.book.specs.Ledger.{literal_fits, fits};
 ghost use Rattle.std.specs.List.{list_all};
 ghost use Rattle.book.specs.Rows.{clause_of};
-ghost use Rattle.theory.specs.Semantics.{at, value, body_value, yield, holds, head_value, share, gain};
-ghost use Rattle.solve.specs.Ready.{Degrees, Rules};
+ghost use Rattle.theory.specs.Semantics.{at, value, body_value, yield, holds, head_value, share};
+ghost use Rattle.solve.specs.Ready.{Degrees};
 
 use book::{Head, Literal, Rule};
 use scale::Scale;
@@ -49,11 +49,9 @@ pub(crate) fn times_body<S: Scale>(
 ) -> u8
     ensures { Degrees (S.meaning scale.now) lower.now → Degrees (S.meaning scale.now) upper.now → start < (S.meaning scale.now).levels → list_all (literal_fits (S.meaning scale.now).levels) body.now ≡ true → result ≡ (S.meaning scale.now).product start (body_value (S.meaning scale.now) (at lower.now) (at upper.now) body.now) }
 {
-    let mut product = start;
-    for literal in body {
-        product = scale.product(product, literal_value(scale, *literal, lower, upper));
-    }
-    product
+    body.iter().fold(start, |product, literal| {
+        scale.product(product, literal_value(scale, *literal, lower, upper))
+    })
 }
 
 // How far a rule demands its head.
@@ -85,9 +83,14 @@ pub(crate) fn head_degree(head: Head, lower: &[u8]) -> u8
 }
 
 // What a rule demands of a statement: its yield where the statement is its head, otherwise nothing.
-fn rule_share<S: Scale>(scale: &S, rule: &Rule, statement: usize, lower: &[u8], upper: &[u8]) -> u8
-    requires { (Degrees (S.meaning scale.now) lower.now) × ((Degrees (S.meaning scale.now) upper.now) × (fits (S.meaning scale.now).levels (clause_of rule.now) ≡ true)) }
-    ensures { result ≡ share (S.meaning scale.now) (at lower.now) (at upper.now) (clause_of rule.now) statement }
+pub(crate) fn rule_share<S: Scale>(
+    scale: &S,
+    rule: &Rule,
+    statement: usize,
+    lower: &[u8],
+    upper: &[u8],
+) -> u8
+    ensures { Degrees (S.meaning scale.now) lower.now → Degrees (S.meaning scale.now) upper.now → fits (S.meaning scale.now).levels (clause_of rule.now) ≡ true → result ≡ share (S.meaning scale.now) (at lower.now) (at upper.now) (clause_of rule.now) statement }
 {
     match rule.head {
         Head::Statement(s) if usize::from(s) == statement => rule_yield(scale, rule, lower, upper),
@@ -95,20 +98,10 @@ fn rule_share<S: Scale>(scale: &S, rule: &Rule, statement: usize, lower: &[u8], 
     }
 }
 
-// The join of what all rules demand of a statement.
-pub(crate) fn gain_of<S: Scale>(
-    scale: &S,
-    rules: &[Rule],
-    statement: usize,
-    lower: &[u8],
-    upper: &[u8],
-) -> u8
-    requires { (Degrees (S.meaning scale.now) lower.now) × ((Degrees (S.meaning scale.now) upper.now) × (Rules (S.meaning scale.now) (length upper.now) rules.now)) }
-    ensures { result ≡ gain (S.meaning scale.now) (at lower.now) (at upper.now) (map clause_of rules.now) statement }
+// The residuum of a rule's body and head at a setting.
+pub(crate) fn rule_residuum<S: Scale>(scale: &S, rule: &Rule, row: &[u8]) -> u8
+    ensures { Degrees (S.meaning scale.now) row.now → fits (S.meaning scale.now).levels (clause_of rule.now) ≡ true → result ≡ (S.meaning scale.now).residuum (body_value (S.meaning scale.now) (at row.now) (at row.now) (clause_of rule.now).body) (head_value (at row.now) rule.now.head) }
 {
-    let mut gain = 0;
-    for rule in rules {
-        gain = scale.join(gain, rule_share(scale, rule, statement, lower, upper));
-    }
-    gain
+    let body = times_body(scale, top(scale), rule.body.literals(), row, row);
+    scale.residuum(body, head_degree(rule.head, row))
 }

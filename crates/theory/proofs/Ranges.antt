@@ -47,7 +47,7 @@ headed h c = record { head = h; weight = c.weight; body = c.body }
 pub by_head : (P : Clause → Type 0) (c : Clause) → ((s : ℕ) → P (headed (Statement s) c)) → ((d : ℕ) → P (headed (Bound d) c)) → P c
 by_head P c f g = elim c.head as (λ h. P (headed h c)) [ Statement s ↦ f s | Bound d ↦ g d ]
 
-every_all : {A : Type 0} (f : A → Bool) (xs : List A) → list_all f xs ≡ true → AllByRecursion (λ x. f x ≡ true) xs
+pub every_all : {A : Type 0} (f : A → Bool) (xs : List A) → list_all f xs ≡ true → AllByRecursion (λ x. f x ≡ true) xs
 every_all f [] e = tt
 every_all f (x ∷ xs) e = let p = and_parts (f x) (list_all f xs) e in (p.0, every_all f xs p.1)
 

@@ -1,36 +1,38 @@
-use Rattle.std.proofs.Common.{◌≡◌, ℕ, ◌<◌, true, false, eqb, ltb, leb, length, get_or, None, sym, refl, ap, ◌∙◌, subst, arith}
+use Rattle.std.proofs.Common.{rules, ◌≡◌, ◌<◌, true, false, eqb, ltb, leb, length, get_or, None, sym, refl, ap, ◌∙◌, subst, arith}
 use Rattle.std.proofs.ByRecursion.{All-get_or}
 use Rattle.std.proofs.lemmas.List.{get_or_default}
 use Rattle.std.proofs.lemmas.Bool.{eq-eqb, lt-leb}
+use Rattle.std.specs.List.{list_all}
+use Rattle.scale.specs.Meaning.{Meaning}
 use Rattle.scale.proofs.Grants.{grants}
 use Rattle.book.specs.Ledger.{Clause, Lawful, fits}
-use Rattle.std.specs.List.{list_all}
 use Rattle.book.specs.Rows.{clause_of}
 use Rattle.book.specs.View.{ledger_of}
-use Rattle.theory.specs.Semantics.{at, yield}
-use Rattle.solve.specs.Ready.{Degrees}
+use Rattle.theory.specs.Semantics.{AllByRecursion, Setting, at, yield}
+use Rattle.solve.specs.Programs.{meaning_of}
 use Rattle.solve.specs.Verdicts.{yield_refusal, YieldAt}
-use Rattle.solve.proofs.Books.{degrees_from, scale_lawful}
+use Rattle.solve.proofs.Books.{made, of_book, program_levels, tested}
+use Rattle.solve.proofs.Programs.{clauses_lawful}
 use Rattle.solve.proofs.judging.yield_at.Goals as goal
 
 pub returns : goal.returns
 returns g c =
-    let m = g.S.Scale.meaning c.args.scale.now in
-    let book = c.args.book.now in
+    let scale = c.args.scale.now in
+    let m : Meaning = g.S.Scale.meaning scale in
+    let l = ledger_of c.args.book.now in
     let setting = c.args.setting.now in
-    let rules = (ledger_of book).rules in
     let i = c.args.i in
     let rule = clause_of c.in_ok-rule.rule in
-    let within : i < length rules = c.in_ok-rule.ensures.0 in
-    let is : rule ≡ get_or rules i rule = c.in_ok-rule.ensures.1 in
-    let levels : m.levels ≡ book.levels = sym c.levels.ensures ∙ c.if-levels-count.false ∙ c.levels-count.ensures in
-    let size : length setting ≡ book.statements = c.if-setting-from.false ∙ c.from.ensures ∙ c.statements.ensures in
-    let passed : list_all (λ d. ltb d book.levels) setting ≡ true =
-    subst (λ (k : ℕ). list_all (λ d. ltb d k) setting ≡ true) c.levels-count.ensures (sym c.if-not-all_below.ensures) in
-    let there : leb (length rules) i ≡ false = lt-leb (length rules) i within in
-    let alike : eqb m.levels book.levels ≡ true = eq-eqb _ _ levels in
-    let long : eqb (length setting) book.statements ≡ true = eq-eqb _ _ size in
-    let none : yield_refusal m (ledger_of book) i setting ≡ None = rw (passed, there, alike, long) refl in
-    let low : Degrees m setting = λ s. subst (λ (k : ℕ). at setting s < k) (sym levels) (degrees_from book.levels setting (omega (arith, book.least)) passed s) in
-    let fit : fits m.levels rule ≡ true = subst (λ (r : Clause). fits m.levels r ≡ true) (sym is) (All-get_or (Lawful m.levels book.statements) rules i rule within (scale_lawful m book levels)).degrees in
-    grants (yield_refusal m (ledger_of book) i setting) (YieldAt m rules i setting) c.rule_yield.result none (λ d. c.rule_yield.ensures low low fit ∙ ap (yield m (at setting) (at setting)) (is ∙ get_or_default rules i rule d within))
+    let within : i < length l.rules = c.in_ok-rule.ensures.0 in
+    let is : rule ≡ get_or l.rules i rule = c.in_ok-rule.ensures.1 in
+    let p = c.in_ok-program.program in
+    let new = made (eqb m.levels l.levels) _ p c.in_ok-program.ensures in
+    let passed : list_all (λ d. ltb d l.levels) setting ≡ true = search rules in
+    let there : leb (length l.rules) i ≡ false = lt-leb (length l.rules) i within in
+    let long : eqb (length setting) l.statements ≡ true = eq-eqb _ _ (c.if-setting-from.false ∙ c.from.ensures ∙ new.1.2) in
+    let none : yield_refusal m l i setting ≡ None = rw (passed, there, new.0, long) refl in
+    let setting_of_p = tested (meaning_of p) p.statements l.levels setting (program_levels scale l p new.1 new.0) (omega (arith, p.some)) passed (c.if-setting-from.false ∙ c.from.ensures) in
+    let here : Setting m l.statements setting = of_book scale l p new.1 (λ m cs n. Setting m n setting) setting_of_p in
+    let lawful : AllByRecursion (Lawful m.levels l.statements) l.rules = of_book scale l p new.1 (λ m cs n. AllByRecursion (Lawful m.levels n) cs) (clauses_lawful (meaning_of p).levels p.statements p.rules.now p.lawful) in
+    let fit : fits m.levels rule ≡ true = subst (λ (r : Clause). fits m.levels r ≡ true) (sym is) (All-get_or (Lawful m.levels l.statements) l.rules i rule within lawful).degrees in
+    grants (yield_refusal m l i setting) (YieldAt m l.rules i setting) c.rule_yield.result none (λ d. c.rule_yield.ensures here.degrees here.degrees fit ∙ ap (yield m (at setting) (at setting)) (is ∙ get_or_default l.rules i rule d within))

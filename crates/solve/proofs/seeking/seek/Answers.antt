@@ -1,41 +1,34 @@
-use Rattle.std.proofs.Common.{◌≡◌, ℕ, ◌^◌, ◌≤◌, true, false, eqb, ltb, List, length, None, sym, refl, ◌∙◌, subst, ap₂, subst₂, arith}
+use Rattle.std.proofs.Common.{◌≡◌, ℕ, ◌^◌, ◌<◌, ◌≤◌, true, false, eqb, ltb, length, Some, None, Option, MatchOption, refl, ◌∙◌, subst, ap₂, arith}
 use Rattle.std.proofs.lemmas.Bool.{eq-eqb, le-ltb, true≢false}
-use Rattle.scale.specs.Meaning.{Laws}
+use Rattle.scale.specs.Meaning.{Meaning, Laws}
 use Rattle.scale.proofs.Grants.{grants}
-use Rattle.book.specs.Ledger.{Clause}
 use Rattle.book.specs.View.{ledger_of}
-use Rattle.solve.specs.Searches.{Sought, Found, seek_refusal}
-use Rattle.solve.proofs.Books.{ready_rules, scale_lawful}
+use Rattle.solve.specs.Programs.{meaning_of, clauses_of}
+use Rattle.solve.specs.Searches.{Found, seek_refusal}
+use Rattle.solve.proofs.Books.{made, of_book}
+use Rattle.solve.proofs.Programs.{clauses_lawful}
 use Rattle.solve.proofs.Searching.{finds}
 use Rattle.solve.proofs.seeking.seek.Goals as goal
 
-pub search-requires : goal.search-requires
-search-requires g c =
-    let m = g.S.Scale.meaning c.args.scale.now in
-    let book = c.args.book.now in
-    let n = length c.args.place.now in
-    let levels : m.levels ≡ book.levels = sym c.levels.ensures ∙ c.if-levels.false ∙ c.levels-levels.ensures in
-    let size : n ≡ book.statements = c.if-place-from.false ∙ c.from.ensures ∙ c.statements-statements.ensures in
-    let count : c.in-Some.count ≡ m.levels ^ n = c.in-Some.ensures.0 ∙ ap₂ ◌^◌ (c.levels-levels.ensures ∙ sym levels) (c.statements-statements.ensures ∙ sym size) in
-    (ready_rules m n book c.rules.result.now c.rules.ensures levels size, (omega (arith, size, book.few), (count, omega (arith, levels, book.least))))
-
 pub returns : goal.returns
 returns g c =
-    let m = g.S.Scale.meaning c.args.scale.now in
-    let book = c.args.book.now in
+    let scale = c.args.scale.now in
+    let m : Meaning = g.S.Scale.meaning scale in
+    let l = ledger_of c.args.book.now in
     let place = c.args.place.now in
-    let levels : m.levels ≡ book.levels = sym c.levels.ensures ∙ c.if-levels.false ∙ c.levels-levels.ensures in
-    let size : length place ≡ book.statements = c.if-place-from.false ∙ c.from.ensures ∙ c.statements-statements.ensures in
-    let count : c.in-Some.count ≡ book.levels ^ book.statements = c.in-Some.ensures.0 ∙ ap₂ ◌^◌ c.levels-levels.ensures c.statements-statements.ensures in
-    let alike : eqb m.levels book.levels ≡ true = eq-eqb _ _ levels in
-    let long : eqb (length place) book.statements ≡ true = eq-eqb _ _ size in
-    let few : ltb 65536 (book.levels ^ book.statements) ≡ false = le-ltb _ _ (subst (λ (k : ℕ). k ≤ 65536) count c.in-Some.ensures.1) in
-    let none : seek_refusal m (ledger_of book) place ≡ None = rw (alike, long, few) refl in
-    let laws : Laws m = g.met.S.Scale.lawful c.args.scale.now (omega (arith, levels, book.least)) in
-    let lawful = scale_lawful m book levels in
     let after = c.search.new.place in
-    let sought = subst₂ (λ (cs : List Clause) (n : ℕ). Sought m cs n c.args.start place after c.search.result) c.rules.ensures size c.search.ensures in
+    let p = c.in_ok-program.program in
+    let new = made (eqb m.levels l.levels) _ p c.in_ok-program.ensures in
+    let counted : c.setting_count.result ≡ Some c.in_ok-count.count = c.in_ok-count.ensures.ok_part in
+    let count = subst (λ (o : Option ℕ). MatchOption o (65536 < c.levels.result ^ p.statements) (λ n. (n ≡ c.levels.result ^ p.statements) × (n ≤ 65536))) counted c.setting_count.ensures in
+    let whole : c.in_ok-count.count ≡ l.levels ^ l.statements = count.0 ∙ ap₂ ◌^◌ c.levels.ensures new.1.2 in
+    let long : eqb (length place) l.statements ≡ true = eq-eqb _ _ (c.if-place-from.false ∙ c.from.ensures ∙ new.1.2) in
+    let few : ltb 65536 (l.levels ^ l.statements) ≡ false = le-ltb _ _ (subst (λ (k : ℕ). k ≤ 65536) whole count.1) in
+    let none : seek_refusal m l place ≡ None = rw (new.0, long, few) refl in
+    let laws : Laws (meaning_of p) = g.met.S.Scale.lawful p.scale.now (omega (arith, p.some)) in
+    let lawful = clauses_lawful (meaning_of p).levels p.statements p.rules.now p.lawful in
+    let found = of_book scale l p new.1 (λ m cs n. Found m cs n c.args.start place after c.search.result) (finds laws p.statements (clauses_of p) lawful c.args.start place c.search.result c.search.ensures) in
     record {
-      answer = grants (seek_refusal m (ledger_of book) place) (Found m (ledger_of book).rules book.statements c.args.start place after) c.search.result none (finds laws book.statements (ledger_of book).rules lawful c.args.start place c.search.result sought);
+      answer = grants (seek_refusal m l place) (Found m l.rules l.statements c.args.start place after) c.search.result none found;
       refused = λ e. absurd (true≢false e);
     }
