@@ -3,3 +3,4 @@ pub mod Raisings
 pub mod Ready
 pub mod Searches
 pub mod Verdicts
+pub mod Words

@@ -1,5 +1,5 @@
 // Judging a setting.
-ghost use Rattle.std.specs.Prelude.{◌≡◌, nat_lt};
+ghost use Rattle.std.specs.Prelude.{◌≡◌, nat_lt, Some};
 ghost use Rattle.std.specs.List.{list_all};
 ghost use Rattle.scale.specs.Causes.{Answers};
 ghost use Rattle.book.specs.View.{ledger_of};
@@ -7,12 +7,14 @@ ghost use Rattle.theory.specs.Semantics.{Setting};
 ghost use Rattle.solve.specs.Programs.{meaning_of, clauses_of, statements_of};
 ghost use Rattle.solve.specs.Ready.{Degrees};
 ghost use Rattle.solve.specs.Verdicts.{check_refusal, yield_refusal, YieldAt, Judged, FirstBreach, Checked};
+ghost use Rattle.solve.specs.Words.{words_of};
 
 use super::program::Program;
 use super::raising::{MOST_STATEMENTS, first_difference};
 use super::values::{rule_holds, rule_residuum, rule_yield};
 use book::Book;
 use scale::{Refusal, Scale};
+use std::fmt;
 
 // The verdict on a setting: a scene, after some rounds; the first rule that it breaks, with the residuum of body and
 // head; or, where no rule is broken, the first statement that the least model does not support, with its degree there.
@@ -21,6 +23,20 @@ pub enum Verdict {
     Scene { rounds: u32 },
     Broken { rule: usize, residuum: u8 },
     Unsupported { statement: usize, degree: u8 },
+}
+
+impl fmt::Display for Verdict {
+    ghost output = { λ v. Some (words_of v) };
+
+    fn fmt<W: fmt::Write>(&self, f: &mut fmt::Formatter<W>) -> fmt::Result {
+        match self {
+            Verdict::Scene { rounds } => write!(f, "scene {rounds}"),
+            Verdict::Broken { rule, residuum } => write!(f, "broken {rule} {residuum}"),
+            Verdict::Unsupported { statement, degree } => {
+                write!(f, "unsupported {statement} {degree}")
+            }
+        }
+    }
 }
 
 impl<'a, S: Scale> Program<'a, S> {

@@ -1,22 +1,15 @@
 -- Raising: it keeps to settings, ascends, and stands still within statements × height rounds.
-use Rattle.std.proofs.Common.{◌≡◌, ℕ, zero, suc, ◌+◌, ◌*◌, ◌<◌, ◌≤◌, ◌⊎◌, List, [], ◌∷◌, map, length, replicate, sym, refl, ap, ◌∙◌, subst, ap₂, inl, inr, add-zero, suc-mul, suc-add, zero-add, arith}
+use Rattle.std.proofs.Common.{◌≡◌, ℕ, zero, suc, ◌+◌, ◌*◌, ◌<◌, ◌≤◌, ◌⊎◌, List, [], ◌∷◌, map, length, replicate, sym, refl, ap, ◌∙◌, subst, ap₂, inl, inr, suc-mul, suc-add, zero-add, arith}
 use Rattle.std.proofs.lemmas.List.{ext_get_or, get_or_past, length-replicate}
+use Rattle.std.proofs.lemmas.List.FromFn.{get_or-map-range_with_len, length-map-range_with_len}
+use Rattle.std.specs.List.{range_with_len}
 use Rattle.std.proofs.lemmas.Bool.{cases_eq, cases_lt, cases_order}
 use Rattle.scale.specs.Meaning.{Meaning, Laws}
 use Rattle.book.specs.Ledger.{Clause}
-use Rattle.theory.specs.Semantics.{at, AllByRecursion, Setting, gain, counting, raise, raised, Rounds}
+use Rattle.theory.specs.Semantics.{at, AllByRecursion, Setting, gain, raise, raised, Rounds}
 use Rattle.theory.proofs.Order.{zero_degree, bottom_le, le_refl}
 use Rattle.theory.proofs.Ranges.{Within, Degrees, gain_degree, gain_past}
 use Rattle.theory.proofs.Values.{Rows, gain_mono}
-
-counted-length : (f : ℕ → ℕ) (i n : ℕ) → length (map f (counting i n)) ≡ n
-counted-length f i zero = refl
-counted-length f i (suc n) = ap suc (counted-length f (suc i) n)
-
-counted_at : (f : ℕ → ℕ) (i n s : ℕ) → s < n → at (map f (counting i n)) s ≡ f (i + s)
-counted_at f i zero s h = absurd (omega arith)
-counted_at f i (suc n) zero h = ap f (sym (add-zero i))
-counted_at f i (suc n) (suc s) h = counted_at f (suc i) n s (omega arith) ∙ ap f (omega arith)
 
 pub zeros_at : (n s : ℕ) → at (replicate n 0) s ≡ 0
 zeros_at zero s = refl
@@ -86,15 +79,15 @@ module _ {m : Meaning} (laws : Laws m) where
         wanted : ℕ → ℕ
         wanted t = gain m (at lower) (at upper) cs t
 
-        go : ((s < n) ⊎ (n ≤ s)) → at (map wanted (counting 0 n)) s ≡ wanted s
-        go (inl h) = counted_at wanted 0 n s h ∙ ap wanted (omega arith)
-        go (inr h) = get_or_past (map wanted (counting 0 n)) s 0 (rw (counted-length wanted 0 n) h) ∙ sym (gain_past laws (at lower) (at upper) n cs hs s h)
+        go : ((s < n) ⊎ (n ≤ s)) → at (map wanted (range_with_len 0 n)) s ≡ wanted s
+        go (inl h) = get_or-map-range_with_len wanted 0 n s s 0 h (zero-add s)
+        go (inr h) = get_or_past (map wanted (range_with_len 0 n)) s 0 (rw (length-map-range_with_len wanted 0 n) h) ∙ sym (gain_past laws (at lower) (at upper) n cs hs s h)
 
     module _ (upper : List ℕ) (du : Degrees m (at upper)) where
       pub raise_setting : (lower : List ℕ) → Degrees m (at lower) → Setting m n (raise m cs n upper lower)
       raise_setting lower dl =
           record {
-            long = counted-length (gain m (at lower) (at upper) cs) 0 n;
+            long = length-map-range_with_len (gain m (at lower) (at upper) cs) 0 n;
             degrees = λ s. subst (λ (x : ℕ). x < m.levels) (sym (at_raise upper lower s)) (gain_degree laws n dl du cs hs s);
           }
 

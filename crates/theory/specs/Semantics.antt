@@ -1,5 +1,6 @@
 -- What rules mean on a scale: values, yields, raisings, rounds, least models and scenes.
 use Rattle.std.specs.Prelude.{◌≡◌, ℕ, zero, suc, ◌<◌, Bool, true, cond, List, [], ◌∷◌, map, length, replicate, ◌==◌, ◌≢◌, slice_index}
+use Rattle.std.specs.List.{range_with_len}
 pub use Rattle.std.specs.List.{AllByRecursion}
 use Rattle.scale.specs.Meaning.{Meaning, top}
 use Rattle.book.specs.Ledger.{Clause}
@@ -49,14 +50,9 @@ abbrev pub gain : Meaning → (ℕ → ℕ) → (ℕ → ℕ) → List Clause �
 gain m l u [] s = 0
 gain m l u (c ∷ cs) s = m.join (share m l u c s) (gain m l u cs s)
 
--- the numbers from i on, n of them
-abbrev pub counting : ℕ → ℕ → List ℕ
-counting i zero = []
-counting i (suc n) = i ∷ counting (suc i) n
-
 -- one raising of the lower row under the upper one
 abbrev pub raise : Meaning → List Clause → ℕ → List ℕ → List ℕ → List ℕ
-raise m cs n upper lower = map (λ s. gain m (at lower) (at upper) cs s) (counting 0 n)
+raise m cs n upper lower = map (λ s. gain m (at lower) (at upper) cs s) (range_with_len 0 n)
 
 -- r raisings from the setting that is 0 everywhere
 abbrev pub raised : Meaning → List Clause → ℕ → List ℕ → ℕ → List ℕ
