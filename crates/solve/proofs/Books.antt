@@ -4,7 +4,7 @@ use Rattle.std.proofs.lemmas.List.{get_or_past}
 use Rattle.std.proofs.lemmas.Bool.{cases_lt, eqb-true, ltb-true}
 use Rattle.std.specs.List.{list_all}
 use Rattle.scale.specs.Causes.{Answers, cause, first_met}
-use Rattle.scale.specs.declared.refusal.Refusal.TheVariants.{LevelsDiffer}
+use Rattle.scale.specs.declared.refusal.Refusal.{Refusal}
 use Rattle.scale.specs.Meaning.{Meaning}
 use Rattle.book.specs.Ledger.{Clause, Ledger, Lawful}
 use Rattle.book.specs.View.{ledger_of}
@@ -19,10 +19,10 @@ use Rattle.solve.specs.declared.program.Program.{Program}
 pub scale_lawful : (m : Meaning) (b : Book) → m.levels ≡ b.levels → AllByRecursion (Lawful m.levels b.statements) (ledger_of b).rules
 scale_lawful m b levels = subst (λ (k : ℕ). AllByRecursion (Lawful k b.statements) (ledger_of b).rules) (sym levels) (book_lawful b)
 
--- a program is made only on a scale of the book's levels
-pub made : {A : Type 0} (same : Bool) (P : A → Type 0) (p : A) → Answers (first_met (cause (not same) LevelsDiffer ∷ [])) (Ok p) P → (same ≡ true) × P p
-made true P p h = (refl, h)
-made false P p h = cc
+-- a call that tests one cause and grants its answer has not met the cause
+pub granted : {A : Type 0} (passes : Bool) (e : Refusal) (P : A → Type 0) (x : A) → Answers (first_met (cause (not passes) e ∷ [])) (Ok x) P → (passes ≡ true) × P x
+granted true e P x h = (refl, h)
+granted false e P x h = cc
 
 -- what holds of a program holds of the scale and the book that it was made of
 pub of_book : {S : Type 0} {members : _} (scale : S) (l : Ledger) (p : Program S members) → ProgramOf scale l p → (P : Meaning → List Clause → ℕ → Type 0) → P (meaning_of p) (clauses_of p) (statements_of p) → P (members.meaning scale) l.rules l.statements

@@ -86,9 +86,7 @@ pub fn check<S: Scale>(scale: &S, book: &Book, setting: &[u8]) -> Result<Verdict
         return Err(Refusal::DegreeTooHigh);
     }
     let program = Program::new(scale, book)?;
-    if setting.len() != usize::from(program.statements) {
-        return Err(Refusal::PlaceLength);
-    }
+    program.test_length(setting)?;
     Ok(program.judge(setting))
 }
 
@@ -101,8 +99,6 @@ pub fn yield_at<S: Scale>(scale: &S, book: &Book, i: usize, setting: &[u8]) -> R
     }
     let rule = book.rule(i)?;
     let program = Program::new(scale, book)?;
-    if setting.len() != usize::from(program.statements) {
-        return Err(Refusal::PlaceLength);
-    }
+    program.test_length(setting)?;
     Ok(rule_yield(scale, &rule, setting, setting))
 }

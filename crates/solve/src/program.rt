@@ -1,7 +1,8 @@
 // The rules of a book on a scale: what every call on a book judges by.
-ghost use Rattle.std.specs.Prelude.{◌≡◌, ◌≤◌, true, MatchBool};
+ghost use Rattle.std.specs.Prelude.{◌≡◌, ◌≤◌, true, not, ◌==◌, [], ◌∷◌, length, MatchBool};
 ghost use Rattle.std.specs.List.{list_all};
-ghost use Rattle.scale.specs.Causes.{Answers};
+ghost use Rattle.scale.specs.Causes.{Answers, cause, first_met};
+ghost use Rattle.scale.specs.declared.refusal.Refusal.TheVariants.{PlaceLength};
 ghost use Rattle.book.specs.Rows.{kept};
 ghost use Rattle.book.specs.View.{ledger_of};
 ghost use Rattle.theory.specs.Semantics.{AllByRecursion, at, StatementHolds};
@@ -14,6 +15,8 @@ use book::{Book, Head, Rule};
 use scale::{Refusal, Scale};
 
 // Rules and a scale that they are lawful on: each names only the program's statements and the scale's degrees.
+// Rows of degrees stay slices with a clause, for a search writes each setting over the last: a type of their own would be
+// made anew at every position.
 #[derive(Drop)]
 pub struct Program<'a, S: Scale> {
     pub(crate) scale: &'a S,
@@ -25,7 +28,7 @@ pub struct Program<'a, S: Scale> {
 }
 
 impl<'a, S: Scale> Program<'a, S> {
-    ghost use Rattle.solve.specs.Programs.{ProgramOf, meaning_of, clauses_of};
+    ghost use Rattle.solve.specs.Programs.{ProgramOf, meaning_of, clauses_of, statements_of};
 
     // The rules of a book, on a scale of the book's levels.
     pub fn new(scale: &'a S, book: &'a Book) -> Result<Program<'a, S>, Refusal>
@@ -39,6 +42,16 @@ impl<'a, S: Scale> Program<'a, S> {
             rules: book.rules(),
             statements: book.statements(),
         })
+    }
+
+    // Refuses a row that has not one place for each statement.
+    pub(crate) fn test_length(&self, row: &[u8]) -> Result<(), Refusal>
+        ensures { Answers (first_met (cause (not (length row.now == statements_of self.now)) PlaceLength ∷ [])) result (λ done. length row.now ≡ statements_of self.now) }
+    {
+        if row.len() != usize::from(self.statements) {
+            return Err(Refusal::PlaceLength);
+        }
+        Ok(())
     }
 
     // Do all rules hold at a row of degrees?

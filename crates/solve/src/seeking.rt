@@ -45,6 +45,7 @@ impl<'a, S: Scale> Program<'a, S> {
         ensures { MatchOption result (NoSceneBetween (meaning_of self.now) (clauses_of self.now) (statements_of self.now) start count) (λ found. FirstScene (meaning_of self.now) (clauses_of self.now) (statements_of self.now) start row.new found.0 found.1) }
     {
         let levels = self.scale.levels();
+        // No `find_map`, for its closure would write into the row, and then a proof knows nothing of what it answered.
         for position in start..count {
             write_setting(row, levels, position);
             if let Some(rounds) = self.scene_rounds(row) {
@@ -82,9 +83,7 @@ pub fn seek<S: Scale>(
     ensures refused { is_ok result ≡ false → place.new ≡ place.old }
 {
     let program = Program::new(scale, book)?;
-    if place.len() != usize::from(program.statements) {
-        return Err(Refusal::PlaceLength);
-    }
+    program.test_length(place)?;
     let count = setting_count(book.levels(), program.statements, MOST_SETTINGS).ok_or(
         Refusal::TooManySettings,
     )?;

@@ -20,6 +20,7 @@ pub(crate) fn write_setting(row: &mut [u8], levels: u8, place: u64)
 {
     let base = u64::from(levels);
     let mut rest = place;
+    // By index, for a proof knows only the length of a row after `iter_mut().rev()`.
     for statement in (0..row.len()).rev() {
         row[statement] = (rest % base) as u8;
         rest /= base;

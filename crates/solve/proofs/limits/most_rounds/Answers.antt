@@ -1,5 +1,6 @@
 use Rattle.std.proofs.Common.{◌≡◌, ◌*◌, ◌≤◌, eqb, None, refl, ◌∙◌, ap₂, mul-le-mul, arith}
 use Rattle.std.proofs.lemmas.Bool.{eqb-true}
+use Rattle.scale.specs.declared.refusal.Refusal.TheVariants.{LevelsDiffer}
 use Rattle.scale.specs.Meaning.{Meaning, Laws}
 use Rattle.scale.proofs.Grants.{grants}
 use Rattle.book.specs.Ledger.{Lawful}
@@ -7,7 +8,7 @@ use Rattle.book.specs.View.{ledger_of}
 use Rattle.theory.specs.Semantics.{AllByRecursion}
 use Rattle.solve.specs.Programs.{meaning_of}
 use Rattle.solve.specs.Raisings.{most_rounds_refusal, Raisings}
-use Rattle.solve.proofs.Books.{made, of_book}
+use Rattle.solve.proofs.Books.{granted, of_book}
 use Rattle.solve.proofs.Heights.{raisings}
 use Rattle.solve.proofs.Programs.{clauses_lawful}
 use Rattle.solve.proofs.limits.most_rounds.Goals as goal
@@ -24,7 +25,7 @@ returns g c =
     let m : Meaning = g.S.Scale.meaning scale in
     let l = ledger_of c.args.book.now in
     let p = c.in_ok-program.program in
-    let new = made (eqb m.levels l.levels) _ p c.in_ok-program.ensures in
+    let new = granted (eqb m.levels l.levels) LevelsDiffer _ p c.in_ok-program.ensures in
     let none : most_rounds_refusal m l ≡ None = rw new.0 refl in
     let limit : c.from.result * c.from-2.result ≡ l.statements * m.height = ap₂ ◌*◌ (c.from.ensures ∙ new.1.2) (c.from-2.ensures ∙ c.height.ensures) in
     let laws : Laws m = g.met.S.Scale.lawful scale (omega (arith, eqb-true _ _ new.0, c.args.book.now.least)) in

@@ -1,11 +1,12 @@
 use Rattle.std.proofs.Common.{◌≡◌, ℕ, ◌^◌, ◌<◌, ◌≤◌, true, false, eqb, ltb, length, Some, None, Option, MatchOption, refl, ◌∙◌, subst, ap₂, arith}
 use Rattle.std.proofs.lemmas.Bool.{eq-eqb, le-ltb, true≢false}
+use Rattle.scale.specs.declared.refusal.Refusal.TheVariants.{LevelsDiffer, PlaceLength}
 use Rattle.scale.specs.Meaning.{Meaning, Laws}
 use Rattle.scale.proofs.Grants.{grants}
 use Rattle.book.specs.View.{ledger_of}
 use Rattle.solve.specs.Programs.{meaning_of, clauses_of}
 use Rattle.solve.specs.Searches.{Found, seek_refusal}
-use Rattle.solve.proofs.Books.{made, of_book}
+use Rattle.solve.proofs.Books.{granted, of_book}
 use Rattle.solve.proofs.Programs.{clauses_lawful}
 use Rattle.solve.proofs.Searching.{finds}
 use Rattle.solve.proofs.seeking.seek.Goals as goal
@@ -18,11 +19,12 @@ returns g c =
     let place = c.args.place.now in
     let after = c.search.new.place in
     let p = c.in_ok-program.program in
-    let new = made (eqb m.levels l.levels) _ p c.in_ok-program.ensures in
+    let new = granted (eqb m.levels l.levels) LevelsDiffer _ p c.in_ok-program.ensures in
+    let fit = granted (eqb (length place) p.statements) PlaceLength _ tt c.in_ok-test_length.ensures in
     let counted : c.setting_count.result ≡ Some c.in_ok-count.count = c.in_ok-count.ensures.ok_part in
     let count = subst (λ (o : Option ℕ). MatchOption o (65536 < c.levels.result ^ p.statements) (λ n. (n ≡ c.levels.result ^ p.statements) × (n ≤ 65536))) counted c.setting_count.ensures in
     let whole : c.in_ok-count.count ≡ l.levels ^ l.statements = count.0 ∙ ap₂ ◌^◌ c.levels.ensures new.1.2 in
-    let long : eqb (length place) l.statements ≡ true = eq-eqb _ _ (c.if-place-from.false ∙ c.from.ensures ∙ new.1.2) in
+    let long : eqb (length place) l.statements ≡ true = eq-eqb _ _ (fit.1 ∙ new.1.2) in
     let few : ltb 65536 (l.levels ^ l.statements) ≡ false = le-ltb _ _ (subst (λ (k : ℕ). k ≤ 65536) whole count.1) in
     let none : seek_refusal m l place ≡ None = rw (new.0, long, few) refl in
     let laws : Laws (meaning_of p) = g.met.S.Scale.lawful p.scale.now (omega (arith, p.some)) in
