@@ -1,7 +1,7 @@
 -- The loop that writes a position's digits from the last.
 use Rattle.std.proofs.Common.{◌≡◌, ℕ, zero, suc, ◌+◌, ◌-◌, ◌*◌, ◌/◌, ◌%◌, ◌^◌, ◌<◌, ◌≤◌, List, length, drop, set, sym, ap, ◌∙◌, subst, ap₂, ⊎_elim, mod-lt, arith}
-use native.Mathlib.Nat.{pow-succ', mod-add-div, pow-zero, sub_self, sub-zero}
-use Rattle.std.proofs.lemmas.List.{drop_all, drop-set, get_or_past, length-drop, length-set, get_or-set_same, get_or-set_other}
+use native.Mathlib.Nat.{pow-succ', mod-add-div, sub-zero}
+use Rattle.std.proofs.lemmas.List.{drop-set, length-drop, length-set, get_or-set_same, get_or-set_other}
 use Rattle.std.proofs.lemmas.Bool.{cases_eq}
 use Rattle.theory.specs.Position.{position}
 use Rattle.theory.specs.Semantics.{at}
@@ -35,12 +35,6 @@ degree_step levels s x row h small later k l =
 -- the digits of `total` are written from place t on, and `rest` has the others
 abbrev pub Writing : ℕ → ℕ → ℕ → ℕ → List ℕ → Type 0
 Writing levels total t rest row = (t ≤ length row) × (position levels (drop t row) + rest * levels ^ (length row - t) ≡ total) × ((s : ℕ) → t ≤ s → at row s < levels)
-
-pub writing_starts : (levels total : ℕ) (row : List ℕ) → 0 < levels → Writing levels total (length row) total row
-writing_starts levels total row some =
-    let nothing : position levels (drop (length row) row) ≡ 0 = ap (position levels) (drop_all (length row) row (omega arith)) in
-    let unit : levels ^ (length row - length row) ≡ 1 = ap (λ (j : ℕ). levels ^ j) (sub_self (length row)) ∙ pow-zero levels in
-    (omega arith, ap₂ (λ (x y : ℕ). x + total * y) nothing unit ∙ omega arith, λ s h. subst (λ (x : ℕ). x < levels) (sym (get_or_past row s 0 h)) some)
 
 pub writing_steps : (levels total t rest : ℕ) (row : List ℕ) → 0 < levels → 0 < t → Writing levels total t rest row → Writing levels total (t - 1) (rest / levels) (set row (t - 1) (rest % levels))
 writing_steps levels total t rest row some more w =

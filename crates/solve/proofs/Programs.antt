@@ -4,6 +4,7 @@ use Rattle.std.proofs.ByRecursion.{All-get_or, All-from_get_or, All-map}
 use Rattle.std.proofs.lemmas.List.{length-take, get_or-take}
 use Rattle.std.proofs.lemmas.Bool.{and_parts, le-leb}
 use Rattle.std.specs.List.{list_all, AllWithin, HoldsAt}
+use Rattle.scale.specs.Meaning.{Laws}
 use Rattle.book.proofs.Reweighing.{blank}
 use Rattle.book.specs.Ledger.{Clause, Lawful, known, fits}
 use Rattle.book.specs.Rows.{clause_of, kept}
@@ -11,6 +12,8 @@ use Rattle.book.specs.declared.rows.Rule.{Rule}
 use Rattle.theory.proofs.Lists.{all_from_map}
 use Rattle.theory.proofs.Ranges.{Within, all_within}
 use Rattle.theory.specs.Semantics.{AllByRecursion}
+use Rattle.solve.specs.Programs.{meaning_of, clauses_of, statements_of}
+use Rattle.solve.specs.declared.program.Program.{Program}
 
 row_lawful : (levels n : ℕ) (r : Rule) → kept levels n r ≡ true → Lawful levels n (clause_of r)
 row_lawful levels n r k =
@@ -30,8 +33,15 @@ lawful_kept levels n (r ∷ rows) h = rw (h.0.knows, h.0.degrees, lawful_kept le
 pub clauses_lawful : (levels n : ℕ) (rows : List Rule) → list_all (kept levels n) rows ≡ true → AllByRecursion (Lawful levels n) (map clause_of rows)
 clauses_lawful levels n rows e = All-map (Lawful levels n) clause_of rows (kept_lawful levels n rows e)
 
-pub clauses_within : (levels n : ℕ) (rows : List Rule) → list_all (kept levels n) rows ≡ true → AllByRecursion (Within levels n) (map clause_of rows)
-clauses_within levels n rows e = all_within levels n (map clause_of rows) (clauses_lawful levels n rows e)
+module _ {S : Type 0} {members : _} (p : Program S members) where
+  pub program_laws : ((s : S) → 0 < (members.meaning s).levels → Laws (members.meaning s)) → Laws (meaning_of p)
+  program_laws laws = laws p.scale.now (omega (arith, p.some))
+
+  pub program_lawful : AllByRecursion (Lawful (meaning_of p).levels (statements_of p)) (clauses_of p)
+  program_lawful = clauses_lawful (meaning_of p).levels p.statements p.rules.now p.lawful
+
+  pub program_within : AllByRecursion (Within (meaning_of p).levels (statements_of p)) (clauses_of p)
+  program_within = all_within (meaning_of p).levels p.statements (clauses_of p) program_lawful
 
 -- what a test that needs a rule's degrees to fit says of a row that passes it, and of one that fails it
 abbrev pub Passes : ℕ → (Clause → Type 0) → Rule → Type 0

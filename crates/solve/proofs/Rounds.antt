@@ -1,5 +1,5 @@
 -- Raising goes on for at most statements × height rounds.
-use Rattle.std.proofs.Common.{◌≡◌, ℕ, true, false, suc, ◌+◌, ◌-◌, ◌*◌, ◌<◌, ◌≤◌, List, length, take, replicate, sym, ap, ◌∙◌, ⊎_elim, mul-le-mul, arith, below_more}
+use Rattle.std.proofs.Common.{◌≡◌, ℕ, true, false, suc, ◌-◌, ◌*◌, ◌<◌, ◌≤◌, List, take, replicate, sym, ap, ◌∙◌, ⊎_elim, mul-le-mul, arith}
 use native.Mathlib.Nat.{sub-zero}
 use Rattle.std.proofs.lemmas.Slice.Eq.{bytes_eq-Decides}
 use Rattle.std.specs.Str.{bytes_eq}
@@ -15,21 +15,20 @@ use Rattle.theory.proofs.Raising.{stands_still}
 abbrev pub Moving : Meaning → List Clause → ℕ → List ℕ → ℕ → Type 0
 Moving m cs n upper r = (k : ℕ) → k < r → raised m cs n upper (suc k) ≡ raised m cs n upper k → ⊥
 
-pub still_moving : (m : Meaning) (cs : List Clause) (n : ℕ) (upper : List ℕ) (r : ℕ) → Moving m cs n upper r → (raised m cs n upper (suc r) ≡ raised m cs n upper r → ⊥) → Moving m cs n upper (r + 1)
-still_moving m cs n upper r moving moves = below_more (λ k. raised m cs n upper (suc k) ≡ raised m cs n upper k → ⊥) r moving moves
+-- rows that test equal are one row, and rows that do not are two
+pub rows_alike : (a b : List ℕ) → true ≡ bytes_eq a b → a ≡ b
+rows_alike a b e = (bytes_eq-Decides a b).0 (sym e)
 
--- one raising more of what r raisings gave
-module _ (m : Meaning) (cs : List Clause) (n : ℕ) (upper : List ℕ) {lower next : List ℕ} (r : ℕ) (so_far : lower ≡ raised m cs n upper r) (more : next ≡ raise m cs n upper lower) where
-  pub one_more : next ≡ raised m cs n upper (suc r)
-  one_more = more ∙ ap (raise m cs n upper) so_far
+rows_apart : (a b : List ℕ) → false ≡ bytes_eq a b → a ≡ b → ⊥
+rows_apart a b e same = true≢false (sym ((bytes_eq-Decides a b).1 same) ∙ sym e)
 
-  pub moves_on : (next ≡ lower → ⊥) → raised m cs n upper (suc r) ≡ raised m cs n upper r → ⊥
-  moves_on apart e = apart (one_more ∙ e ∙ sym so_far)
-
-module _ {m : Meaning} (laws : Laws m) (n : ℕ) (cs : List Clause) (within : AllByRecursion (Within m.levels n) cs) (upper : List ℕ) (degrees : Degrees m (at upper)) (r : ℕ) (moving : Moving m cs n upper r) (moves : raised m cs n upper (suc r) ≡ raised m cs n upper r → ⊥) where
-  pub moving_below : r < n * m.height
-  moving_below =
+-- one raising more of what r raisings gave, where none stood still before it and it does not either
+module _ {m : Meaning} (laws : Laws m) (n : ℕ) (cs : List Clause) (within : AllByRecursion (Within m.levels n) cs) (upper : List ℕ) (degrees : Degrees m (at upper)) where
+  pub goes_on : {lower next : List ℕ} (r : ℕ) → Moving m cs n upper r → lower ≡ raised m cs n upper r → next ≡ raise m cs n upper lower → false ≡ bytes_eq next lower → r < n * m.height
+  goes_on {lower} {next} r moving so_far more apart =
       let found = stands_still laws n cs within upper degrees in
+      let one_more : next ≡ raised m cs n upper (suc r) = more ∙ ap (raise m cs n upper) so_far in
+      let moves : raised m cs n upper (suc r) ≡ raised m cs n upper r → ⊥ = λ e. rows_apart next lower apart (one_more ∙ e ∙ sym so_far) in
       ⊎_elim (λ e. absurd (moves (rw e found.1.still))) (⊎_elim (λ lt. omega (arith, found.2)) (λ gt. absurd (moving found.0 gt found.1.still))) (cases_order r found.0)
 
 -- statements × height is small
@@ -41,14 +40,3 @@ few_rounds {m} laws n h =
 -- the front of a row that is 0 everywhere
 pub zeros_front : (n : ℕ) → n ≤ 16 → take {A = ℕ} (n - 0) (replicate 16 0) ≡ replicate n 0
 zeros_front n h = rw sub-zero (take-replicate n 16 0 h)
-
--- the same, as long as another row
-pub zeros_under : (n : ℕ) (row : List ℕ) → length row ≡ n → n ≤ 16 → take {A = ℕ} (length row) (replicate 16 0) ≡ replicate n 0
-zeros_under n row long h = ap (λ (k : ℕ). take k (replicate 16 0)) long ∙ take-replicate n 16 0 h
-
--- rows that do not test equal are two
-pub rows_apart : (a b : List ℕ) → false ≡ bytes_eq a b → a ≡ b → ⊥
-rows_apart a b e same = true≢false (sym ((bytes_eq-Decides a b).1 same) ∙ sym e)
-
-pub rows_alike : (a b : List ℕ) → true ≡ bytes_eq a b → a ≡ b
-rows_alike a b e = (bytes_eq-Decides a b).0 (sym e)

@@ -2,7 +2,6 @@ use Rattle.std.proofs.Common.{rules, ◌≡◌, true, eqb, ltb, length, None, re
 use Rattle.std.proofs.lemmas.Bool.{eq-eqb}
 use Rattle.std.specs.List.{list_all}
 use Rattle.scale.specs.declared.refusal.Refusal.TheVariants.{LevelsDiffer, PlaceLength}
-use Rattle.scale.specs.Meaning.{Laws}
 use Rattle.scale.proofs.Grants.{grants}
 use Rattle.book.specs.View.{ledger_of}
 use Rattle.theory.specs.Semantics.{Setting}
@@ -10,7 +9,7 @@ use Rattle.solve.specs.Programs.{meaning_of, clauses_of}
 use Rattle.solve.specs.Verdicts.{Checked, check_refusal}
 use Rattle.solve.proofs.Books.{granted, of_book, program_levels, tested}
 use Rattle.solve.proofs.Checks.{checked}
-use Rattle.solve.proofs.Programs.{clauses_lawful}
+use Rattle.solve.proofs.Programs.{program_laws, program_lawful}
 use Rattle.solve.proofs.judging.check.Goals as goal
 
 pub returns : goal.returns
@@ -24,7 +23,7 @@ returns g c =
     let passed : list_all (λ d. ltb d l.levels) setting ≡ true = search rules in
     let long : eqb (length setting) l.statements ≡ true = eq-eqb _ _ (fit.1 ∙ new.1.2) in
     let none : check_refusal (g.S.Scale.meaning scale) l setting ≡ None = rw (passed, new.0, long) refl in
-    let laws : Laws (meaning_of p) = g.met.S.Scale.lawful p.scale.now (omega (arith, p.some)) in
-    let lawful = clauses_lawful (meaning_of p).levels p.statements p.rules.now p.lawful in
+    let laws = program_laws p g.met.S.Scale.lawful in
+    let lawful = program_lawful p in
     let is : Setting (meaning_of p) p.statements setting = tested (meaning_of p) p.statements l.levels setting (program_levels scale l p new.1 new.0) (omega (arith, p.some)) passed fit.1 in
     grants (check_refusal (g.S.Scale.meaning scale) l setting) (Checked (g.S.Scale.meaning scale) l.rules l.statements setting) c.judge.result none (of_book scale l p new.1 (λ m cs n. Checked m cs n setting c.judge.result) (checked laws p.statements (clauses_of p) lawful setting is c.judge.result c.judge.ensures))

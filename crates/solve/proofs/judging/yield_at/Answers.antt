@@ -13,7 +13,7 @@ use Rattle.theory.specs.Semantics.{AllByRecursion, Setting, at, yield}
 use Rattle.solve.specs.Programs.{meaning_of}
 use Rattle.solve.specs.Verdicts.{yield_refusal, YieldAt}
 use Rattle.solve.proofs.Books.{granted, of_book, program_levels, tested}
-use Rattle.solve.proofs.Programs.{clauses_lawful}
+use Rattle.solve.proofs.Programs.{program_lawful}
 use Rattle.solve.proofs.judging.yield_at.Goals as goal
 
 pub returns : goal.returns
@@ -35,6 +35,6 @@ returns g c =
     let none : yield_refusal m l i setting ≡ None = rw (passed, there, new.0, long) refl in
     let setting_of_p = tested (meaning_of p) p.statements l.levels setting (program_levels scale l p new.1 new.0) (omega (arith, p.some)) passed fit.1 in
     let here : Setting m l.statements setting = of_book scale l p new.1 (λ m cs n. Setting m n setting) setting_of_p in
-    let lawful : AllByRecursion (Lawful m.levels l.statements) l.rules = of_book scale l p new.1 (λ m cs n. AllByRecursion (Lawful m.levels n) cs) (clauses_lawful (meaning_of p).levels p.statements p.rules.now p.lawful) in
+    let lawful : AllByRecursion (Lawful m.levels l.statements) l.rules = of_book scale l p new.1 (λ m cs n. AllByRecursion (Lawful m.levels n) cs) (program_lawful p) in
     let fit : fits m.levels rule ≡ true = subst (λ (r : Clause). fits m.levels r ≡ true) (sym is) (All-get_or (Lawful m.levels l.statements) l.rules i rule within lawful).degrees in
     grants (yield_refusal m l i setting) (YieldAt m l.rules i setting) c.rule_yield.result none (λ d. c.rule_yield.ensures here.degrees here.degrees fit ∙ ap (yield m (at setting) (at setting)) (is ∙ get_or_default l.rules i rule d within))

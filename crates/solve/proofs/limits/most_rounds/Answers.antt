@@ -6,11 +6,10 @@ use Rattle.scale.proofs.Grants.{grants}
 use Rattle.book.specs.Ledger.{Lawful}
 use Rattle.book.specs.View.{ledger_of}
 use Rattle.theory.specs.Semantics.{AllByRecursion}
-use Rattle.solve.specs.Programs.{meaning_of}
 use Rattle.solve.specs.Raisings.{most_rounds_refusal, Raisings}
 use Rattle.solve.proofs.Books.{granted, of_book}
 use Rattle.solve.proofs.Heights.{raisings}
-use Rattle.solve.proofs.Programs.{clauses_lawful}
+use Rattle.solve.proofs.Programs.{program_lawful}
 use Rattle.solve.proofs.limits.most_rounds.Goals as goal
 
 pub overflow_mul-result : goal.overflow_mul-result
@@ -29,5 +28,5 @@ returns g c =
     let none : most_rounds_refusal m l ≡ None = rw new.0 refl in
     let limit : c.from.result * c.from-2.result ≡ l.statements * m.height = ap₂ ◌*◌ (c.from.ensures ∙ new.1.2) (c.from-2.ensures ∙ c.height.ensures) in
     let laws : Laws m = g.met.S.Scale.lawful scale (omega (arith, eqb-true _ _ new.0, c.args.book.now.least)) in
-    let lawful = of_book scale l p new.1 (λ m cs n. AllByRecursion (Lawful m.levels n) cs) (clauses_lawful (meaning_of p).levels p.statements p.rules.now p.lawful) in
+    let lawful = of_book scale l p new.1 (λ m cs n. AllByRecursion (Lawful m.levels n) cs) (program_lawful p) in
     grants (most_rounds_refusal m l) (Raisings m l.rules l.statements) _ none (raisings laws l.statements l.rules lawful _ limit)

@@ -1,18 +1,18 @@
-use Rattle.std.proofs.Common.{rules, arith}
-use Rattle.scale.specs.Meaning.{Meaning, Laws}
+use Rattle.std.proofs.Common.{rules}
+use Rattle.scale.specs.Meaning.{Meaning}
 use Rattle.theory.specs.Semantics.{at}
 use Rattle.theory.proofs.Order.{zero_degree, join_zero_left}
 use Rattle.solve.proofs.Folds.{folds}
 use Rattle.solve.proofs.Gains.{demands}
 use Rattle.solve.proofs.Parts.{gains}
-use Rattle.solve.proofs.Programs.{kept_lawful}
+use Rattle.solve.proofs.Programs.{program_laws, kept_lawful}
 use Rattle.solve.proofs.program.Program.gain.Goals as goal
 
 pub returns : goal.returns
 returns g c =
     let p = c.args.self.now in
     let m : Meaning = g.S.Scale.meaning p.scale.now in
-    let laws : Laws m = g.met.S.Scale.lawful p.scale.now (omega (arith, p.some)) in
+    let laws = program_laws p g.met.S.Scale.lawful in
     let s = c.args.statement in
     let lawful = kept_lawful m.levels p.statements p.rules.now p.lawful in
     let way = demands laws c.requires.lower c.requires.upper p.statements s in

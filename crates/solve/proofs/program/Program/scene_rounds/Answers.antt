@@ -1,9 +1,8 @@
-use Rattle.std.proofs.Common.{◌≡◌, ℕ, List, sym, ◌∙◌, subst, arith}
-use Rattle.scale.specs.Meaning.{Laws}
+use Rattle.std.proofs.Common.{◌≡◌, ℕ, List, sym, ◌∙◌, subst}
 use Rattle.theory.specs.Semantics.{raise}
 use Rattle.theory.proofs.Least.{scene_holds, scene_from}
 use Rattle.solve.specs.Programs.{clauses_of}
-use Rattle.solve.proofs.Programs.{clauses_within}
+use Rattle.solve.proofs.Programs.{program_laws, program_within}
 use Rattle.solve.proofs.Rounds.{rows_alike}
 use Rattle.solve.proofs.program.Program.scene_rounds.Goals as goal
 use Rattle.solve.proofs.program.Program.scene_rounds.Goals.{then-not-stands-via-then-not-stands, then-not-stands-via-else-not-stands+then-not-all_hold}
@@ -12,8 +11,8 @@ pub returns-then-not-stands : goal.returns-then-not-stands
 returns-then-not-stands g c scene =
     let p = c.args.self.now in
     let m = g.S.Scale.meaning p.scale.now in
-    let laws : Laws m = g.met.S.Scale.lawful p.scale.now (omega (arith, p.some)) in
-    let within = clauses_within m.levels p.statements p.rules.now p.lawful in
+    let laws = program_laws p g.met.S.Scale.lawful in
+    let within = program_within p in
     elim c.then-not-stands.branch [
       | then-not-stands-via-then-not-stands w ↦ w.if-not-stands.ensures (subst (λ (x : List ℕ). raise m (clauses_of p) p.statements c.args.row.now x ≡ x) scene.1.least scene.1.rounds.still)
       | then-not-stands-via-else-not-stands+then-not-all_hold w ↦ w.if-not-all_hold.ensures c.requires.degrees (scene_holds laws p.statements (clauses_of p) within c.requires scene.1)
