@@ -2,5 +2,6 @@ pub mod Programs
 pub mod Raisings
 pub mod Ready
 pub mod Searches
+pub mod Valuations
 pub mod Verdicts
 pub mod Words

@@ -11,7 +11,7 @@ ghost use Rattle.solve.specs.Words.{words_of};
 
 use super::program::Program;
 use super::raising::{MOST_STATEMENTS, first_difference};
-use super::values::{rule_holds, rule_residuum, rule_yield};
+use super::values::Valuation;
 use book::Book;
 use scale::{Refusal, Scale};
 use std::fmt;
@@ -44,9 +44,14 @@ impl<'a, S: Scale> Program<'a, S> {
     pub(crate) fn first_broken(&self, row: &[u8]) -> Option<usize>
         ensures { Degrees (meaning_of self.now) row.now → FirstBreach (meaning_of self.now) self.now.rules.now row.now result }
     {
+        let valuation = Valuation {
+            scale: self.scale,
+            lower: row,
+            upper: row,
+        };
         self.rules
             .iter()
-            .position(|rule| !rule_holds(self.scale, rule, row, row))
+            .position(|rule| !valuation.rule_holds(rule))
     }
 
     fn judge(&self, row: &[u8]) -> Verdict
@@ -54,7 +59,12 @@ impl<'a, S: Scale> Program<'a, S> {
         ensures { Judged (meaning_of self.now) (clauses_of self.now) (statements_of self.now) row.now result }
     {
         if let Some(rule) = self.first_broken(row) {
-            let residuum = rule_residuum(self.scale, &self.rules[rule], row);
+            let valuation = Valuation {
+                scale: self.scale,
+                lower: row,
+                upper: row,
+            };
+            let residuum = valuation.rule_residuum(&self.rules[rule]);
             return Verdict::Broken { rule, residuum };
         }
         let mut lower = [0; MOST_STATEMENTS];
@@ -100,5 +110,10 @@ pub fn yield_at<S: Scale>(scale: &S, book: &Book, i: usize, setting: &[u8]) -> R
     let rule = book.rule(i)?;
     let program = Program::new(scale, book)?;
     program.test_length(setting)?;
-    Ok(rule_yield(scale, &rule, setting, setting))
+    let valuation = Valuation {
+        scale,
+        lower: setting,
+        upper: setting,
+    };
+    Ok(valuation.rule_yield(&rule))
 }

@@ -10,7 +10,7 @@ ghost use Rattle.solve.specs.Ready.{Degrees};
 ghost use Rattle.solve.specs.Raisings.{most_rounds_refusal};
 ghost use Rattle.solve.specs.Verdicts.{HoldsAt};
 
-use super::values::rule_holds;
+use super::values::Valuation;
 use book::{Book, Head, Rule};
 use scale::{Refusal, Scale};
 
@@ -65,8 +65,13 @@ impl<'a, S: Scale> Program<'a, S> {
     pub fn statements_hold(&self, lower: &[u8], upper: &[u8]) -> bool
         ensures { Degrees (meaning_of self.now) lower.now → Degrees (meaning_of self.now) upper.now → MatchBool result (AllByRecursion (StatementHolds (meaning_of self.now) (at lower.now) (at upper.now)) (clauses_of self.now)) (AllByRecursion (StatementHolds (meaning_of self.now) (at lower.now) (at upper.now)) (clauses_of self.now) → ⊥) }
     {
+        let valuation = Valuation {
+            scale: self.scale,
+            lower,
+            upper,
+        };
         self.rules.iter().all(|rule| match rule.head {
-            Head::Statement(_) => rule_holds(self.scale, rule, lower, upper),
+            Head::Statement(_) => valuation.rule_holds(rule),
             Head::Bound(_) => true,
         })
     }

@@ -5,7 +5,7 @@ ghost use Rattle.solve.specs.Programs.{meaning_of, clauses_of, statements_of};
 ghost use Rattle.solve.specs.Ready.{Degrees, FirstDifference};
 
 use super::program::Program;
-use super::values::rule_share;
+use super::values::Valuation;
 use scale::Scale;
 
 // The most statements that a book may have, and so the longest row.
@@ -18,8 +18,13 @@ impl<'a, S: Scale> Program<'a, S> {
         requires upper { Degrees (meaning_of self.now) upper.now }
         ensures { result ≡ gain (meaning_of self.now) (at lower.now) (at upper.now) (clauses_of self.now) statement }
     {
+        let valuation = Valuation {
+            scale: self.scale,
+            lower,
+            upper,
+        };
         self.rules.iter().fold(0, |gain, rule| {
-            self.scale.join(gain, rule_share(self.scale, rule, statement, lower, upper))
+            self.scale.join(gain, valuation.rule_share(rule, statement))
         })
     }
 

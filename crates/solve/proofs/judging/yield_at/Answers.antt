@@ -37,4 +37,4 @@ returns g c =
     let here : Setting m l.statements setting = of_book scale l p new.1 (λ m cs n. Setting m n setting) setting_of_p in
     let lawful : AllByRecursion (Lawful m.levels l.statements) l.rules = of_book scale l p new.1 (λ m cs n. AllByRecursion (Lawful m.levels n) cs) (program_lawful p) in
     let fit : fits m.levels rule ≡ true = subst (λ (r : Clause). fits m.levels r ≡ true) (sym is) (All-get_or (Lawful m.levels l.statements) l.rules i rule within lawful).degrees in
-    grants (yield_refusal m l i setting) (YieldAt m l.rules i setting) c.rule_yield.result none (λ d. c.rule_yield.ensures here.degrees here.degrees fit ∙ ap (yield m (at setting) (at setting)) (is ∙ get_or_default l.rules i rule d within))
+    grants (yield_refusal m l i setting) (YieldAt m l.rules i setting) c.rule_yield.result none (λ d. c.rule_yield.ensures (here.degrees, here.degrees) fit ∙ ap (yield m (at setting) (at setting)) (is ∙ get_or_default l.rules i rule d within))

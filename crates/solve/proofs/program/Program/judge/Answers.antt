@@ -12,7 +12,7 @@ returns-in-Some g c =
     let m = g.S.Scale.meaning p.scale.now in
     let breach = c.in-Some.ensures c.requires.degrees in
     let fit = rule_fits m p.statements p.rules.now (kept_lawful m.levels p.statements p.rules.now p.lawful) c.in-Some.rule c.index-self-rule.result breach.0 in
-    first_from_breach m p.rules.now c.args.row.now c.in-Some.rule c.rule_residuum-residuum.result c.index-self-rule.result breach (c.rule_residuum-residuum.ensures c.requires.degrees fit)
+    first_from_breach m p.rules.now c.args.row.now c.in-Some.rule c.rule_residuum-residuum.result c.index-self-rule.result breach (c.rule_residuum-residuum.ensures (c.requires.degrees, c.requires.degrees) fit)
 
 pub returns-in-Some-first_difference : goal.returns-in-Some-first_difference
 returns-in-Some-first_difference g c =
