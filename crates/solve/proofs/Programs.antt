@@ -50,25 +50,23 @@ Passes levels P r = fits levels (clause_of r) ≡ true → P (clause_of r)
 abbrev pub Fails : ℕ → (Clause → Type 0) → Rule → Type 0
 Fails levels P r = fits levels (clause_of r) ≡ true → P (clause_of r) → ⊥
 
+module _ (levels n : ℕ) (rows : List Rule) (kept_all : list_all (kept levels n) rows ≡ true) where
+  pub row_fits : (k : ℕ) (d : Rule) → k < length rows → fits levels (clause_of (get_or rows k d)) ≡ true
+  row_fits k d h = (All-get_or (λ r. Lawful levels n (clause_of r)) rows k d h (kept_lawful levels n rows kept_all)).degrees
+
 module _ (levels n : ℕ) (P : Clause → Type 0) (rows : List Rule) (kept_all : list_all (kept levels n) rows ≡ true) where
-  lawful : AllByRecursion (λ r. Lawful levels n (clause_of r)) rows
-  lawful = kept_lawful levels n rows kept_all
-
-  row_fits : (k : ℕ) (d : Rule) → k < length rows → fits levels (clause_of (get_or rows k d)) ≡ true
-  row_fits k d h = (All-get_or (λ r. Lawful levels n (clause_of r)) rows k d h lawful).degrees
-
   -- a test of all rows decides whether P holds of every rule
   pub decided : (r : Bool) → MatchBool r (AllWithin (Passes levels P) rows 0 (length rows)) ((k : ℕ) × (k < length rows) × HoldsAt (Fails levels P) rows k) → MatchBool r (AllByRecursion P (map clause_of rows)) (AllByRecursion P (map clause_of rows) → ⊥)
   decided true passed =
-      All-map P clause_of rows (All-from_get_or (λ r. P (clause_of r)) rows blank (λ k h. passed k blank (omega arith) h (row_fits k blank h)))
+      All-map P clause_of rows (All-from_get_or (λ r. P (clause_of r)) rows blank (λ k h. passed k blank (omega arith) h (row_fits levels n rows kept_all k blank h)))
   decided false failed =
       let k = failed.0 in
-      λ held. failed.2 blank (row_fits k blank failed.1) (All-get_or (λ r. P (clause_of r)) rows k blank failed.1 (all_from_map P clause_of rows held))
+      λ held. failed.2 blank (row_fits levels n rows kept_all k blank failed.1) (All-get_or (λ r. P (clause_of r)) rows k blank failed.1 (all_from_map P clause_of rows held))
 
   -- the first row that failed a test is the first whose rule lacks P
   pub first_lacking : (r : Option ℕ) → MatchOption r (AllWithin (Passes levels P) rows 0 (length rows)) (λ i. (i < length rows) × HoldsAt (Fails levels P) rows i × AllWithin (Passes levels P) rows 0 i) → MatchOption r (AllByRecursion (λ x. P (clause_of x)) rows) (λ i. (i < length rows) × ((d : Rule) → P (clause_of (get_or rows i d)) → ⊥) × AllByRecursion (λ x. P (clause_of x)) (take i rows))
-  first_lacking None passed = All-from_get_or (λ x. P (clause_of x)) rows blank (λ k h. passed k blank (omega arith) h (row_fits k blank h))
+  first_lacking None passed = All-from_get_or (λ x. P (clause_of x)) rows blank (λ k h. passed k blank (omega arith) h (row_fits levels n rows kept_all k blank h))
   first_lacking (Some i) found =
       let front : (k : ℕ) → k < length (take i rows) → P (clause_of (get_or (take i rows) k blank)) =
-      λ k h. let short : k < i = omega (arith, length-take i rows) in subst (λ (x : Rule). P (clause_of x)) (sym (get_or-take i rows k blank short)) (found.2 k blank (omega arith) short (row_fits k blank (omega (arith, found.0)))) in
-      (found.0, λ d. found.1 d (row_fits i d found.0), All-from_get_or (λ x. P (clause_of x)) (take i rows) blank front)
+      λ k h. let short : k < i = omega (arith, length-take i rows) in subst (λ (x : Rule). P (clause_of x)) (sym (get_or-take i rows k blank short)) (found.2 k blank (omega arith) short (row_fits levels n rows kept_all k blank (omega (arith, found.0)))) in
+      (found.0, λ d. found.1 d (row_fits levels n rows kept_all i d found.0), All-from_get_or (λ x. P (clause_of x)) (take i rows) blank front)
