@@ -1,15 +1,14 @@
 -- What raising does under every setting, and how long it can go on.
-use Rattle.std.specs.Prelude.{◌≡◌, ℕ, suc, ◌*◌, ◌≤◌, not, ◌↔◌, List, [], ◌∷◌, Option, ◌==◌}
+use Rattle.std.specs.Prelude.{◌≡◌, ℕ, suc, ◌*◌, ◌≤◌, ◌↔◌, List, Option}
 use Rattle.scale.specs.declared.refusal.Refusal.{Refusal}
-use Rattle.scale.specs.declared.refusal.Refusal.TheVariants.{LevelsDiffer}
-use Rattle.scale.specs.Causes.{cause, first_met}
 use Rattle.scale.specs.Meaning.{Meaning}
 use Rattle.book.specs.Ledger.{Clause, Ledger}
 use Rattle.theory.specs.AnswerSet.{Under, LeastUnder, AnswerSet}
 use Rattle.theory.specs.Semantics.{Setting, raised, Rounds, Scene}
+use Rattle.solve.specs.Programs.{program_refusal}
 
 abbrev pub most_rounds_refusal : Meaning → Ledger → Option Refusal
-most_rounds_refusal m l = first_met (cause (not (m.levels == l.levels)) LevelsDiffer ∷ [])
+most_rounds_refusal m l = program_refusal m l
 
 -- Under one upper setting: raising ascends; it stands still after at most `most` rounds, at one number of rounds; there
 -- it is the least setting at which the rules with a statement for their head hold; and the setting is a scene exactly when it is a fuzzy answer set.

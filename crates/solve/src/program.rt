@@ -7,7 +7,6 @@ ghost use Rattle.book.specs.Rows.{kept};
 ghost use Rattle.book.specs.View.{ledger_of};
 ghost use Rattle.theory.specs.Semantics.{AllByRecursion, at, StatementHolds};
 ghost use Rattle.solve.specs.Ready.{Degrees};
-ghost use Rattle.solve.specs.Raisings.{most_rounds_refusal};
 ghost use Rattle.solve.specs.Verdicts.{HoldsAt};
 
 use super::values::Valuation;
@@ -28,11 +27,11 @@ pub struct Program<'a, S: Scale> {
 }
 
 impl<'a, S: Scale> Program<'a, S> {
-    ghost use Rattle.solve.specs.Programs.{ProgramOf, meaning_of, clauses_of, statements_of};
+    ghost use Rattle.solve.specs.Programs.{program_refusal, ProgramOf, meaning_of, clauses_of, statements_of};
 
     // The rules of a book, on a scale of the book's levels.
     pub fn new(scale: &'a S, book: &'a Book) -> Result<Program<'a, S>, Refusal>
-        ensures { Answers (most_rounds_refusal (S.meaning scale.now) (ledger_of book.now)) result (ProgramOf scale.now (ledger_of book.now)) }
+        ensures { Answers (program_refusal (S.meaning scale.now) (ledger_of book.now)) result (ProgramOf scale.now (ledger_of book.now)) }
     {
         if scale.levels() != book.levels() {
             return Err(Refusal::LevelsDiffer);

@@ -1,6 +1,5 @@
-use Rattle.std.proofs.Common.{◌≡◌, ℕ, List, sym, ◌∙◌, subst}
-use Rattle.theory.specs.Semantics.{raise}
-use Rattle.theory.proofs.Least.{scene_holds, scene_from}
+use Rattle.std.proofs.Common.{sym, ◌∙◌}
+use Rattle.theory.proofs.Least.{scene_still, scene_holds, scene_from}
 use Rattle.solve.specs.Programs.{clauses_of}
 use Rattle.solve.proofs.Programs.{program_laws, program_within}
 use Rattle.solve.proofs.Rounds.{rows_alike}
@@ -14,7 +13,7 @@ returns-then-not-stands g c scene =
     let laws = program_laws p g.met.S.Scale.lawful in
     let within = program_within p in
     elim c.then-not-stands.branch [
-      | then-not-stands-via-then-not-stands w ↦ w.if-not-stands.ensures (subst (λ (x : List ℕ). raise m (clauses_of p) p.statements c.args.row.now x ≡ x) scene.1.least scene.1.rounds.still)
+      | then-not-stands-via-then-not-stands w ↦ w.if-not-stands.ensures (scene_still scene.1)
       | then-not-stands-via-else-not-stands+then-not-all_hold w ↦ w.if-not-all_hold.ensures c.requires.degrees (scene_holds laws p.statements (clauses_of p) within c.requires scene.1)
     ]
 
