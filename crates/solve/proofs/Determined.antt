@@ -1,6 +1,6 @@
 -- The answers of check and seek are determined: a setting has one verdict, and a search one answer.
 use Rattle.std.proofs.Common.{◌≡◌, ℕ, ◌^◌, ◌<◌, ◌≤◌, List, length, get_or, take, Some, None, Option, sym, refl, ap, ◌∙◌, ap₂, inl, inr, arith}
-use Rattle.std.proofs.ByRecursion.{All-get_or}
+use Rattle.std.proofs.lemmas.List.Elements.{All-from_recursion}
 use Rattle.std.proofs.lemmas.List.{get_or_default, get_or-take, length-take}
 use Rattle.std.proofs.lemmas.Bool.{both_ways, cases_order}
 use Rattle.scale.specs.Meaning.{Meaning, Laws}
@@ -42,11 +42,11 @@ module _ {m : Meaning} {cs : List Clause} {row : List ℕ} where
       before : (k : ℕ) → k < i → Kept m cs row k
       before k h c =
           let short : k < length (take i cs) = simp length-take (omega arith) in
-          rw (get_or-take i cs k c h) at (All-get_or (HoldsAt m row) (take i cs) k c short b.before)
+          rw (get_or-take i cs k c h) at (All-from_recursion (HoldsAt m row) (take i cs) b.before k c short)
 
   -- where every rule holds, none is broken
   broken_apart : {i d : ℕ} → AllByRecursion (HoldsAt m row) cs → FirstBroken m cs row i d → ⊥
-  broken_apart {i} held b = broken_fails b (λ c. All-get_or (HoldsAt m row) cs i c b.there held)
+  broken_apart {i} held b = broken_fails b (λ c. All-from_recursion (HoldsAt m row) cs held i c b.there)
 
   broken_once : {i j d e : ℕ} → FirstBroken m cs row i d → FirstBroken m cs row j e → Broken i d ≡ Broken j e
   broken_once {i} {j} b c =

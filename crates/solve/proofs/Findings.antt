@@ -1,6 +1,6 @@
 -- From what the loops found in the rows of a table to the verdict on its rules.
 use Rattle.std.proofs.Common.{◌≡◌, ℕ, ◌<◌, List, map, length, get_or, take, Some, None, Option, is_none, Bool, MatchBool, MatchOption, sym, ap, ◌∙◌, subst, arith}
-use Rattle.std.proofs.ByRecursion.{All-get_or, All-map}
+use Rattle.std.proofs.lemmas.List.Elements.{All-from_recursion}
 use Rattle.std.proofs.lemmas.List.{length-map, get_or-map, take-map}
 use Rattle.std.proofs.lemmas.Bool.{both_ways, false_from_ne_true}
 use Rattle.scale.specs.Meaning.{Meaning}
@@ -8,7 +8,7 @@ use Rattle.book.specs.Ledger.{Clause}
 use Rattle.book.specs.Rows.{clause_of}
 use Rattle.book.specs.declared.rows.Rule.{Rule}
 use Rattle.book.proofs.Reweighing.{blank}
-use Rattle.theory.proofs.Lists.{all_from_map}
+use Rattle.theory.proofs.Lists.{all_to_map, all_from_map}
 use Rattle.theory.specs.Semantics.{AllByRecursion, at, holds, body_value, head_value, raised, Rounds}
 use Rattle.solve.specs.Ready.{FirstDifference}
 use Rattle.solve.specs.Verdicts.{HoldsAt, FirstBreach, FirstBroken, FirstUnsupported}
@@ -19,11 +19,11 @@ module _ (m : Meaning) (rows : List Rule) (row : List ℕ) where
   first_breach (Some i) found = (found.0, λ d. false_from_ne_true _ (found.1 d), found.2)
 
   pub all_hold : FirstBreach m rows row None → AllByRecursion (HoldsAt m row) (map clause_of rows)
-  all_hold held = All-map (HoldsAt m row) clause_of rows held
+  all_hold held = all_to_map (HoldsAt m row) clause_of rows held
 
   pub breach_refutes : {i : ℕ} → FirstBreach m rows row (Some i) → AllByRecursion (HoldsAt m row) (map clause_of rows) → ⊥
   breach_refutes {i} breach held =
-      both_ways (holds m (at row) (at row) (clause_of (get_or rows i blank))) (breach.1 blank) (All-get_or (λ r. HoldsAt m row (clause_of r)) rows i blank breach.0 (all_from_map (HoldsAt m row) clause_of rows held))
+      both_ways (holds m (at row) (at row) (clause_of (get_or rows i blank))) (breach.1 blank) (All-from_recursion (λ r. HoldsAt m row (clause_of r)) rows (all_from_map (HoldsAt m row) clause_of rows held) i blank breach.0)
 
   -- no rule is broken exactly when all hold
   pub none_broken : (found : Option ℕ) (none : Bool) → none ≡ is_none found → FirstBreach m rows row found → MatchBool none (AllByRecursion (HoldsAt m row) (map clause_of rows)) (AllByRecursion (HoldsAt m row) (map clause_of rows) → ⊥)
@@ -36,7 +36,7 @@ module _ (m : Meaning) (rows : List Rule) (row : List ℕ) where
     there = let size = length-map rows clause_of in omega (arith, breach.0);
     is = get_or-map clause_of rows i r (clause_of (get_or rows i r)) breach.0;
     breaks = breach.1 r;
-    before = subst (λ (cs : List Clause). AllByRecursion (HoldsAt m row) cs) (sym (take-map clause_of i rows)) (All-map (HoldsAt m row) clause_of (take i rows) breach.2);
+    before = subst (λ (cs : List Clause). AllByRecursion (HoldsAt m row) cs) (sym (take-map clause_of i rows)) (all_to_map (HoldsAt m row) clause_of (take i rows) breach.2);
     residuum = residuum;
   }
 

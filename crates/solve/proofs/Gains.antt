@@ -1,12 +1,12 @@
 -- The folds of a rule's body and of what rules demand of a statement.
 use Rattle.std.proofs.Common.{◌≡◌, ℕ, true, refl, map}
-use Rattle.std.proofs.ByRecursion.{All-map}
 use Rattle.scale.specs.Meaning.{Meaning, Laws}
 use Rattle.book.specs.Ledger.{Lawful, literal_fits}
 use Rattle.book.specs.Rows.{clause_of}
 use Rattle.book.specs.declared.rows.Rule.{Rule}
 use Rattle.book.specs.declared.rule.Literal.{Literal}
 use Rattle.theory.specs.Semantics.{value, body_value, share}
+use Rattle.theory.proofs.Lists.{all_to_map}
 use Rattle.theory.proofs.Order.{join_zero_right, join_assoc, product_top_right}
 use Rattle.theory.proofs.Ranges.{Degrees, value_degree, body_degree, share_degree, gain_degree, all_within}
 use Rattle.solve.proofs.Folds.{Folding}
@@ -30,5 +30,5 @@ module _ {m : Meaning} (laws : Laws m) {l u : ℕ → ℕ} (dl : Degrees m l) (d
     unit = λ a h. join_zero_right laws h;
     cons = λ r rs. refl;
     worth = λ r h. share_degree laws dl du (clause_of r) (fits_weight m.levels (clause_of r) h.degrees) s;
-    worths = λ rs h. gain_degree laws n dl du (map clause_of rs) (all_within m.levels n (map clause_of rs) (All-map (Lawful m.levels n) clause_of rs h)) s;
+    worths = λ rs h. gain_degree laws n dl du (map clause_of rs) (all_within m.levels n (map clause_of rs) (all_to_map (Lawful m.levels n) clause_of rs h)) s;
   }

@@ -1,5 +1,5 @@
 use Rattle.std.proofs.Common.{rules, ◌≡◌, ◌<◌, true, false, eqb, ltb, leb, length, get_or, None, sym, refl, ap, ◌∙◌, subst, arith}
-use Rattle.std.proofs.ByRecursion.{All-get_or}
+use Rattle.std.proofs.lemmas.List.Elements.{All-from_recursion}
 use Rattle.std.proofs.lemmas.List.{get_or_default}
 use Rattle.std.proofs.lemmas.Bool.{eq-eqb, lt-leb}
 use Rattle.std.specs.List.{list_all}
@@ -36,5 +36,5 @@ returns g c =
     let setting_of_p = tested (meaning_of p) p.statements l.levels setting (program_levels scale l p new.1 new.0) (omega (arith, p.some)) passed fit.1 in
     let here : Setting m l.statements setting = of_book scale l p new.1 (λ m cs n. Setting m n setting) setting_of_p in
     let lawful : AllByRecursion (Lawful m.levels l.statements) l.rules = of_book scale l p new.1 (λ m cs n. AllByRecursion (Lawful m.levels n) cs) (program_lawful p) in
-    let fit : fits m.levels rule ≡ true = subst (λ (r : Clause). fits m.levels r ≡ true) (sym is) (All-get_or (Lawful m.levels l.statements) l.rules i rule within lawful).degrees in
+    let fit : fits m.levels rule ≡ true = subst (λ (r : Clause). fits m.levels r ≡ true) (sym is) (All-from_recursion (Lawful m.levels l.statements) l.rules lawful i rule within).degrees in
     grants (yield_refusal m l i setting) (YieldAt m l.rules i setting) c.rule_yield.result none (λ d. c.rule_yield.ensures (here.degrees, here.degrees) fit ∙ ap (yield m (at setting) (at setting)) (is ∙ get_or_default l.rules i rule d within))
