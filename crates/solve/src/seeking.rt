@@ -64,7 +64,7 @@ impl<'a, S: Scale> Program<'a, S> {
         let mut candidate = [0; MOST_STATEMENTS];
         let row = &mut candidate[..place.len()];
         let found = self.first_scene(start, count, row);
-        if let Some(_) = found {
+        if found.is_some() {
             place.copy_from_slice(row);
         }
         found
