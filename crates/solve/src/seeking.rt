@@ -84,8 +84,7 @@ pub fn seek<S: Scale>(
 {
     let program = Program::new(scale, book)?;
     program.test_length(place)?;
-    let count = setting_count(book.levels(), program.statements, MOST_SETTINGS).ok_or(
-        Refusal::TooManySettings,
-    )?;
+    let settings = setting_count(book.levels(), program.statements, MOST_SETTINGS);
+    let count = settings.ok_or(Refusal::TooManySettings)?;
     Ok(program.search(start, count, place))
 }
