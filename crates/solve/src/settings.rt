@@ -14,7 +14,8 @@ pub fn setting_count(levels: u8, statements: u8, most: u32) -> Option<u64>
 
 // Writes the setting of a position: its digits in base `levels`, the last statement's the lowest.
 pub(crate) fn write_setting(row: &mut [u8], levels: u8, place: u64)
-    requires { (0 < levels) × (place < levels ^ length row.old) }
+    requires some { 0 < levels }
+    requires within { place < levels ^ length row.old }
     ensures position { position levels row.new ≡ place }
     ensures degrees { AllBelow levels row.new }
 {
