@@ -18,4 +18,4 @@ mod tokens;
 
 pub use faults::{Layer, LineFault, Place, ReadFault, TextFault};
 pub use reading::{Named, Reading, read, read_named};
-pub use sizes::ScaleKind;
+pub use sizes::{OnScale, ScaleKind};

@@ -1,7 +1,8 @@
-// The kinds of scale and how many levels each has.
+// The kinds of scale, and what is done on a scale whose kind is known only at run time.
 ghost use Rattle.std.specs.Prelude.{◌≡◌};
-ghost use Rattle.scale.specs.Causes.{answered};
-ghost use Rattle.text.specs.Sizes.{levels_of, size_refusal};
+ghost use Rattle.scale.specs.Causes.{Answers, answered};
+ghost use Rattle.scale.specs.Meaning.{Meaning};
+ghost use Rattle.text.specs.Sizes.{levels_of, meaning_of, size_refusal};
 
 use scale::{Godel, Hours, Luk, Refusal, Scale};
 
@@ -12,13 +13,47 @@ pub enum ScaleKind {
     Hours,
 }
 
+// A task for any scale. It is generic, so that each kind of scale runs it at its own speed.
+pub trait OnScale {
+    type Answer;
+
+    // What the task may answer on a scale of this meaning.
+    ghost answers: { Self → Meaning → Self.Answer → Type 0 };
+
+    fn on_scale<S: Scale>(self, scale: &S) -> Self::Answer
+        ensures { answers self (S.meaning scale.now) result };
+}
+
+impl ScaleKind {
+    // Runs the task on the scale of this kind and size, or refuses the size.
+    pub fn run<T: OnScale + Drop>(self, size: u8, task: T) -> Result<T::Answer, Refusal>
+        ensures { Answers (size_refusal self size) result (λ a. T.answers task (meaning_of self size) a) }
+    {
+        match self {
+            ScaleKind::Luk => Ok(task.on_scale(&Luk::new(size)?)),
+            ScaleKind::Godel => Ok(task.on_scale(&Godel::new(size)?)),
+            ScaleKind::Hours => Ok(task.on_scale(&Hours::new(size)?)),
+        }
+    }
+}
+
+// How many levels a scale has.
+#[derive(Drop)]
+struct Levels;
+
+impl OnScale for Levels {
+    type Answer = u8;
+
+    ghost answers = { λ _ m n. n ≡ m.levels };
+
+    fn on_scale<S: Scale>(self, scale: &S) -> u8 {
+        scale.levels()
+    }
+}
+
 // The levels of a scale, or a refusal where there is none of this size.
 pub(crate) fn scale_levels(kind: ScaleKind, size: u8) -> Result<u8, Refusal>
     ensures { result ≡ answered (size_refusal kind size) (levels_of kind size) }
 {
-    match kind {
-        ScaleKind::Luk => Ok(Luk::new(size)?.levels()),
-        ScaleKind::Godel => Ok(Godel::new(size)?.levels()),
-        ScaleKind::Hours => Ok(Hours::new(size)?.levels()),
-    }
+    kind.run(size, Levels)
 }
