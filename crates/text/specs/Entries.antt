@@ -1,5 +1,6 @@
 -- A rule over names, as a rule over the numbers of the statements.
-use Rattle.std.specs.Prelude.{ℕ, suc, cond, List, [], ◌∷◌, Some, None, Option}
+use Rattle.std.specs.Prelude.{ℕ, List, Some, None, Option}
+use Rattle.std.specs.List.{position}
 use Rattle.std.specs.Option.{option_map}
 use Rattle.std.specs.Str.{bytes_eq}
 use Rattle.book.specs.Ledger.{Clause, clause}
@@ -14,8 +15,7 @@ use Rattle.text.specs.Shapes.{Item, plain, over, lacking, Front, statement, boun
 
 -- where a name stands in the list of names
 abbrev pub index_of : List (List ℕ) → List ℕ → Option ℕ
-index_of [] n = None
-index_of (m ∷ ms) n = cond (bytes_eq m n) (Some 0) (option_map suc (index_of ms n))
+index_of names n = position (λ m. bytes_eq m n) names
 
 abbrev pub head_of : List (List ℕ) → Front → Option Head
 head_of names (statement n) = option_map Statement (index_of names n)

@@ -35,12 +35,7 @@ fn is_allowed(b: u8) -> bool
 pub(crate) fn all_allowed(line: &[u8]) -> bool
     ensures { result ≡ list_all allowed line.now }
 {
-    for b in line {
-        if !is_allowed(*b) {
-            return false;
-        }
-    }
-    true
+    line.iter().all(|b| is_allowed(*b))
 }
 
 fn is_digit(b: u8) -> bool
@@ -53,23 +48,14 @@ fn is_digit(b: u8) -> bool
 pub(crate) fn all_digits(word: &[u8]) -> bool
     ensures { result ≡ list_all digit word.now }
 {
-    for b in word {
-        if !is_digit(*b) {
-            return false;
-        }
-    }
-    true
+    word.iter().all(|b| is_digit(*b))
 }
 
 // How many bytes of a word stand at the front.
 pub(crate) fn word_len(bytes: &[u8]) -> usize
     ensures { result ≡ prefix_len wordly bytes.now }
 {
-    let mut n = 0;
-    while n < bytes.len() && is_word_byte(bytes[n]) {
-        n += 1;
-    }
-    n
+    bytes.iter().take_while(|b| is_word_byte(**b)).count()
 }
 
 pub(crate) fn same(a: &[u8], b: &[u8]) -> bool

@@ -14,12 +14,7 @@ use super::tokens::Token;
 pub(crate) fn is_blank(line: &[u8]) -> bool
     ensures { result ≡ list_all is_space line.now }
 {
-    for b in line {
-        if *b != b' ' {
-            return false;
-        }
-    }
-    true
+    line.iter().all(|b| *b == b' ')
 }
 
 // A number has at most three digits.
@@ -37,12 +32,7 @@ fn is_short(token: &Token) -> bool
 fn all_short(tokens: &[Token]) -> bool
     ensures { result ≡ list_all short (map said tokens.now) }
 {
-    for token in tokens {
-        if !is_short(token) {
-            return false;
-        }
-    }
-    true
+    tokens.iter().all(|token| is_short(token))
 }
 
 // A bad byte anywhere in the line comes before a long number anywhere in it.

@@ -16,12 +16,8 @@ pub(crate) fn statement(names: &[&[u8]], name: &[u8]) -> Option<u8>
     requires { length names.now ≤ 16 }
     ensures { result ≡ index_of (map (λ x. x.now) names.now) name.now }
 {
-    for (i, known) in names.iter().enumerate() {
-        if same(known, name) {
-            return Some(i as u8);
-        }
-    }
-    None
+    let place = names.iter().position(|known| same(known, name))?;
+    Some(place as u8)
 }
 
 pub(crate) fn head_in(names: &[&[u8]], lead: Lead) -> Option<Head>

@@ -6,11 +6,7 @@ ghost use Rattle.text.specs.Numerals.{value_of};
 pub(crate) fn capped_value(digits: &[u8]) -> u8
     ensures { result ≡ min 255 (value_of digits.now) }
 {
-    let mut value: u8 = 0;
-    for b in digits {
-        value = value
-            .saturating_mul(10)
-            .saturating_add(b.saturating_sub(b'0'));
-    }
-    value
+    digits.iter().fold(0u8, |value, b| value
+        .saturating_mul(10)
+        .saturating_add(b.saturating_sub(b'0')))
 }

@@ -37,13 +37,11 @@ fn place_of(text: &[u8], byte: usize) -> Place
     requires { byte ≤ length text.now }
     ensures { result ≡ place_at text.now byte }
 {
-    let mut number = 1;
-    for i in 0..byte {
-        if text[i] == b'\n' {
-            number += 1;
-        }
+    let ended = text[..byte].iter().filter(|b| **b == b'\n').count();
+    Place {
+        line: ended + 1,
+        byte,
     }
-    Place { line: number, byte }
 }
 
 fn check_length(text: &[u8]) -> Result<(), TextFault>
