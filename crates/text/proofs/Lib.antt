@@ -1,8 +1,8 @@
 pub mod Cuts
-pub mod Fixed
-pub mod Looping
+pub mod Lines
 pub mod Lookups
 pub mod Naming
 pub mod Obeying
 pub mod Outcomes
 pub mod Spelling
+pub mod Traversals

@@ -1,5 +1,5 @@
 -- Searches over a list, seen through a function.
-use Rattle.std.proofs.Common.{◌≡◌, ℕ, ◌+◌, ◌*◌, min, Bool, cond, not, List, [], ◌∷◌, map, length, Some, None, refl, ap, ap₂, arith, nat_lt}
+use Rattle.std.proofs.Common.{◌≡◌, ℕ, ◌+◌, ◌*◌, min, Bool, cond, not, List, [], ◌∷◌, map, Some, None, refl, ap, ap₂, arith, nat_lt}
 use Rattle.std.specs.List.{position, prefix_len}
 use Rattle.std.proofs.lemmas.List.{length-map}
 

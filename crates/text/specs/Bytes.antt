@@ -15,7 +15,14 @@ digit b = nat_le 48 b && nat_le b 57
 abbrev pub wordly : ℕ → Bool
 wordly b = letter b || (digit b || b == 95)
 
--- the marks : , > and ~
+-- the marks are written : , > and ~
+abbrev pub mark_byte : Mark → ℕ
+mark_byte Colon = 58
+mark_byte Comma = 44
+mark_byte Above = 62
+mark_byte Not = 126
+
+-- the mark that a byte writes
 abbrev pub sign_of : ℕ → Option Mark
 sign_of b =
     cond (b == 58) (Some Colon) (cond (b == 44) (Some Comma) (cond (b == 62) (Some Above) (cond (b == 126) (Some Not) None)))

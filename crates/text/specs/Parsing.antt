@@ -1,38 +1,22 @@
 -- The shape of a line worked out token by token.
-use Rattle.std.specs.Prelude.{ℕ, Bool, true, false, cond, List, [], ◌∷◌, Some, None, codes, Option}
+use Rattle.std.specs.Prelude.{ℕ, Bool, false, cond, List, [], ◌∷◌, Some, None, codes, Option, ◌==◌}
+use Rattle.std.specs.List.{slice_split}
+use Rattle.std.specs.Option.{option_map, option_and_then}
 use Rattle.std.specs.Str.{bytes_eq}
-use Rattle.text.specs.Lists.{parted, traversed}
-use Rattle.text.specs.Shapes.{Item, plain, over, lacking, statement, bound, Content, scale, name, rule, is_name, is_comma}
+use Rattle.text.specs.Bytes.{mark_byte}
+use Rattle.text.specs.Lists.{traversed}
+use Rattle.text.specs.Shapes.{Item, plain, over, lacking, Front, statement, bound, Content, scale, name, rule, is_name}
 use Rattle.text.specs.Tokens.{Spell, word, number, mark}
 use Rattle.text.specs.declared.tokens.Mark.{Mark}
 use Rattle.text.specs.declared.tokens.Mark.TheVariants.{Colon, Comma, Above, Not}
 use Rattle.text.specs.declared.sizes.ScaleKind.{ScaleKind}
 use Rattle.text.specs.declared.sizes.ScaleKind.TheVariants.{Luk, Godel, Hours}
-use Rattle.text.specs.declared.parsing.Verb.{Verb}
-use Rattle.text.specs.declared.parsing.Verb.TheVariants.{Scale, Name, Rule, Bound}
 
-abbrev pub same_mark : Mark → Mark → Bool
-same_mark Colon Colon = true
-same_mark Colon Comma = false
-same_mark Colon Above = false
-same_mark Colon Not = false
-same_mark Comma Colon = false
-same_mark Comma Comma = true
-same_mark Comma Above = false
-same_mark Comma Not = false
-same_mark Above Colon = false
-same_mark Above Comma = false
-same_mark Above Above = true
-same_mark Above Not = false
-same_mark Not Colon = false
-same_mark Not Comma = false
-same_mark Not Above = false
-same_mark Not Not = true
-
+-- whether it is this mark
 abbrev pub is_mark : Mark → Spell → Bool
 is_mark m (word w) = false
 is_mark m (number w) = false
-is_mark m (mark k) = same_mark k m
+is_mark m (mark k) = mark_byte k == mark_byte m
 
 abbrev pub name_of : Spell → Option (List ℕ)
 name_of (word w) = cond (is_name w) (Some w) None
@@ -44,32 +28,26 @@ number_of (word w) = None
 number_of (number w) = Some w
 number_of (mark m) = None
 
-abbrev pub verb_of : Spell → Option Verb
-verb_of (word w) =
-    cond (bytes_eq w (codes "scale")) (Some Scale) (cond (bytes_eq w (codes "name")) (Some Name) (cond (bytes_eq w (codes "rule")) (Some Rule) (cond (bytes_eq w (codes "bound")) (Some Bound) None)))
-verb_of (number w) = None
-verb_of (mark m) = None
+-- the kind of scale that a word names
+abbrev pub worded : List ℕ → Option ScaleKind
+worded w =
+    cond (bytes_eq w (codes "luk")) (Some Luk) (cond (bytes_eq w (codes "godel")) (Some Godel) (cond (bytes_eq w (codes "hours")) (Some Hours) None))
 
 abbrev pub kind_of : Spell → Option ScaleKind
-kind_of (word w) =
-    cond (bytes_eq w (codes "luk")) (Some Luk) (cond (bytes_eq w (codes "godel")) (Some Godel) (cond (bytes_eq w (codes "hours")) (Some Hours) None))
+kind_of (word w) = worded w
 kind_of (number w) = None
 kind_of (mark m) = None
 
--- what follows where there is a value
-abbrev pub then : {A B : Type 0} → Option A → (A → Option B) → Option B
-then None f = None
-then (Some x) f = f x
-
 abbrev pub term_of : List Spell → Option Item
 term_of [] = None
-term_of (a ∷ []) = then (name_of a) (λ n. Some (plain n))
-term_of (a ∷ b ∷ []) = cond (is_mark Not a) (then (name_of b) (λ n. Some (lacking n))) None
-term_of (a ∷ b ∷ c ∷ []) = cond (is_mark Above b) (then (name_of a) (λ n. then (number_of c) (λ d. Some (over n d)))) None
+term_of (a ∷ []) = option_map plain (name_of a)
+term_of (a ∷ b ∷ []) = cond (is_mark Not a) (option_map lacking (name_of b)) None
+term_of (a ∷ b ∷ c ∷ []) =
+    cond (is_mark Above b) (option_and_then (λ n. option_map (over n) (number_of c)) (name_of a)) None
 term_of (a ∷ b ∷ c ∷ d ∷ ts) = None
 
 abbrev pub terms_of : List Spell → Option (List Item)
-terms_of ts = traversed term_of (parted is_comma ts)
+terms_of ts = traversed term_of (slice_split (is_mark Comma) ts)
 
 abbrev pub body_of : List Spell → Option (List Item)
 body_of [] = Some []
@@ -78,31 +56,35 @@ body_of (t ∷ ts) = cond (is_mark Colon t) (terms_of ts) None
 abbrev pub scale_line_of : List Spell → Option Content
 scale_line_of [] = None
 scale_line_of (a ∷ []) = None
-scale_line_of (a ∷ b ∷ []) = then (kind_of a) (λ k. then (number_of b) (λ d. Some (scale k d)))
+scale_line_of (a ∷ b ∷ []) = option_and_then (λ k. option_map (scale k) (number_of b)) (kind_of a)
 scale_line_of (a ∷ b ∷ c ∷ ts) = None
 
 abbrev pub name_line_of : List Spell → Option Content
 name_line_of [] = None
-name_line_of (a ∷ []) = then (name_of a) (λ n. Some (name n))
+name_line_of (a ∷ []) = option_map name (name_of a)
 name_line_of (a ∷ b ∷ ts) = None
+
+-- a rule, where its front, its weight and its body are all there
+abbrev pub rule_with : Option Front → Option (List ℕ) → List Spell → Option Content
+rule_with front weight body = option_and_then (λ f. option_and_then (λ w. option_map (rule f w) (body_of body)) weight) front
 
 abbrev pub rule_line_of : List Spell → Option Content
 rule_line_of [] = None
 rule_line_of (a ∷ []) = None
-rule_line_of (a ∷ b ∷ ts) = then (number_of a) (λ w. then (name_of b) (λ n. then (body_of ts) (λ body. Some (rule (statement n) w body))))
+rule_line_of (a ∷ b ∷ ts) = rule_with (option_map statement (name_of b)) (number_of a) ts
 
 abbrev pub bound_line_of : List Spell → Option Content
 bound_line_of [] = None
 bound_line_of (a ∷ []) = None
-bound_line_of (a ∷ b ∷ ts) = then (number_of a) (λ d. then (number_of b) (λ w. then (body_of ts) (λ body. Some (rule (bound d) w body))))
+bound_line_of (a ∷ b ∷ ts) = rule_with (option_map bound (number_of a)) (number_of b) ts
 
-abbrev pub line_by : Option Verb → List Spell → Option Content
-line_by None ts = None
-line_by (Some Scale) ts = scale_line_of ts
-line_by (Some Name) ts = name_line_of ts
-line_by (Some Rule) ts = rule_line_of ts
-line_by (Some Bound) ts = bound_line_of ts
+-- what a line says that begins with a word
+abbrev pub line_by : List ℕ → List Spell → Option Content
+line_by w ts =
+    cond (bytes_eq w (codes "scale")) (scale_line_of ts) (cond (bytes_eq w (codes "name")) (name_line_of ts) (cond (bytes_eq w (codes "rule")) (rule_line_of ts) (cond (bytes_eq w (codes "bound")) (bound_line_of ts) None)))
 
 abbrev pub line_of : List Spell → Option Content
 line_of [] = None
-line_of (t ∷ ts) = line_by (verb_of t) ts
+line_of (word w ∷ ts) = line_by w ts
+line_of (number w ∷ ts) = None
+line_of (mark m ∷ ts) = None

@@ -1,6 +1,6 @@
 -- The lines of a text.
 use Rattle.std.specs.Prelude.{ℕ, ◌+◌, Bool, List, [], ◌∷◌, length, take, count_by, ◌==◌}
-use Rattle.text.specs.Lists.{parted}
+use Rattle.std.specs.List.{slice_split}
 use Rattle.text.specs.declared.faults.Place.{Place}
 
 -- byte 10 ends a line
@@ -24,7 +24,7 @@ rows n i [] = []
 rows n i (p ∷ ps) = row (at n i) p ∷ rows (n + 1) (i + length p + 1) ps
 
 abbrev pub lines_of : List ℕ → List Row
-lines_of text = rows 1 0 (parted ends_line text)
+lines_of text = rows 1 0 (slice_split ends_line text)
 
 -- the place of a byte: its line is 1 plus the bytes 10 before it
 abbrev pub place_at : List ℕ → ℕ → Place

@@ -49,14 +49,6 @@ abbrev pub is_name : List ℕ → Bool
 is_name [] = false
 is_name (b ∷ bs) = letter b
 
-abbrev pub is_comma : Spell → Bool
-is_comma (word w) = false
-is_comma (number w) = false
-is_comma (mark Comma) = true
-is_comma (mark Colon) = false
-is_comma (mark Above) = false
-is_comma (mark Not) = false
-
 abbrev pub kind_word : ScaleKind → List ℕ
 kind_word Luk = codes "luk"
 kind_word Godel = codes "godel"

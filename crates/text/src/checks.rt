@@ -17,22 +17,11 @@ pub(crate) fn is_blank(line: &[u8]) -> bool
     line.iter().all(|b| *b == b' ')
 }
 
-// A number has at most three digits.
-fn is_short(token: &Token) -> bool
-    ensures { result ≡ short (said token.now) }
-{
-    match *token {
-        Token::Number(digits, _) => digits.len() <= 3,
-        Token::Word(_, _) => true,
-        Token::Mark(_, _) => true,
-    }
-}
-
 // Is every number short?
 fn all_short(tokens: &[Token]) -> bool
     ensures { result ≡ list_all short (map said tokens.now) }
 {
-    tokens.iter().all(|token| is_short(token))
+    tokens.iter().all(|token| token.is_short())
 }
 
 // A bad byte anywhere in the line comes before a long number anywhere in it.

@@ -1,5 +1,5 @@
 // The book that a text describes, as far as its lines have been read.
-ghost use Rattle.std.specs.Prelude.{◌≡◌, ◌≤◌, vec_len};
+ghost use Rattle.std.specs.Prelude.{◌≤◌, vec_len};
 
 use super::sizes::ScaleKind;
 use book::Book;
@@ -10,10 +10,16 @@ pub(crate) struct ScaleSize {
     pub(crate) size: u8,
 }
 
+// The names of the statements, in their order. A book has at most 16.
+#[derive(Drop)]
+pub(crate) struct Names<'a> {
+    pub(crate) list: Vec<&'a [u8]>,
+    ghost few: { vec_len list ≤ 16 },
+}
+
 #[derive(Drop)]
 pub(crate) struct Draft<'a> {
     pub(crate) scale: Option<ScaleSize>,
-    pub(crate) names: Vec<&'a [u8]>,
+    pub(crate) names: Names<'a>,
     pub(crate) book: Book,
-    ghost few: { vec_len names ≤ 16 },
 }

@@ -6,7 +6,10 @@ ghost use Rattle.text.specs.Numerals.{value_of};
 pub(crate) fn capped_value(digits: &[u8]) -> u8
     ensures { result ≡ min 255 (value_of digits.now) }
 {
-    digits.iter().fold(0u8, |value, b| value
-        .saturating_mul(10)
-        .saturating_add(b.saturating_sub(b'0')))
+    digits.iter().fold(
+        0u8,
+        |value, b| value
+            .saturating_mul(10)
+            .saturating_add(b.saturating_sub(b'0')),
+    )
 }

@@ -1,15 +1,14 @@
 // A whole text.
 ghost use Rattle.std.specs.Prelude.{◌≡◌, ◌≤◌, map, length, IfOk};
-ghost use Rattle.std.specs.List.{prefix_len};
 ghost use Rattle.book.specs.View.{ledger_of};
 ghost use Rattle.text.specs.Drafting.{state_of};
-ghost use Rattle.text.specs.Lists.{other};
+ghost use Rattle.text.specs.Entries.{names_of};
 ghost use Rattle.text.specs.Meaning.{Did, rows_read, Reads, Once, fitting};
 ghost use Rattle.text.specs.Naming.{reading_of, less_names, Declares, DeclaresOnce};
 ghost use Rattle.text.specs.Parsing.{line_of};
 ghost use Rattle.text.specs.Rows.{ends_line, lines_of, place_at};
 
-use super::drafts::{Draft, ScaleSize};
+use super::drafts::{Draft, Names, ScaleSize};
 use super::faults::{LineFault, Place, ReadFault, TextFault};
 use super::sizes::ScaleKind;
 use book::Book;
@@ -53,40 +52,28 @@ fn check_length(text: &[u8]) -> Result<(), TextFault>
     Ok(())
 }
 
-// How many bytes stand before the end of the line.
-fn line_len(text: &[u8]) -> usize
-    ensures { result ≡ prefix_len (other ends_line) text.now }
-{
-    let mut n = 0;
-    while n < text.len() && text[n] != b'\n' {
-        n += 1;
-    }
-    n
-}
-
 fn read_lines<'a>(heap: Global, text: &'a [u8], draft: &mut Draft<'a>) -> Result<(), ReadFault>
     requires { length text.now ≤ 8192 }
     ensures { Did (rows_read line_of (state_of draft.old) (lines_of text.now)) result (state_of draft.new) }
 {
-    let mut line = 1;
-    let mut byte = 0;
-    while byte <= text.len() {
-        let end = byte + line_len(&text[byte..]);
-        draft.read_line(heap, &text[byte..end], Place { line, byte })?;
-        line += 1;
-        byte = end + 1;
+    let mut place = Place { line: 1, byte: 0 };
+    for line in text.split(|b| *b == b'\n') {
+        draft.read_line(heap, line, place)?;
+        place = Place {
+            line: place.line + 1,
+            byte: place.byte + line.len() + 1,
+        };
     }
     Ok(())
 }
 
-fn reading_of(scale: ScaleSize, names: &[&[u8]]) -> Reading
-    requires { length names.now ≤ 16 }
-    ensures { result ≡ reading_of scale (length names.now) }
+fn reading_of(scale: ScaleSize, names: &Names) -> Reading
+    ensures { result ≡ reading_of scale (length (names_of names.now)) }
 {
     Reading {
         kind: scale.kind,
         size: scale.size,
-        statements: names.len() as u8,
+        statements: names.count(),
     }
 }
 
@@ -100,7 +87,7 @@ pub fn read_named<'a>(heap: Global, text: &'a [u8], book: &mut Book) -> Result<N
     check_length(text)?;
     let mut draft = Draft {
         scale: None,
-        names: Vec::new(heap),
+        names: Names::new(heap),
         book: Book::new(heap)?,
     };
     read_lines(heap, text, &mut draft)?;
@@ -113,8 +100,11 @@ pub fn read_named<'a>(heap: Global, text: &'a [u8], book: &mut Book) -> Result<N
         None => Err(ReadFault::Line(LineFault::Shape(place_of(text, text.len())))),
         Some(scale) => {
             *book = fresh;
-            let reading = reading_of(scale, names.as_slice());
-            Ok(Named { reading, names })
+            let reading = reading_of(scale, &names);
+            Ok(Named {
+                reading,
+                names: names.list,
+            })
         }
     }
 }

@@ -2,6 +2,7 @@
 ghost use Rattle.std.specs.Prelude.{◌≡◌};
 ghost use Rattle.scale.specs.Causes.{Answers, answered};
 ghost use Rattle.scale.specs.Meaning.{Meaning};
+ghost use Rattle.text.specs.Parsing.{worded};
 ghost use Rattle.text.specs.Sizes.{levels_of, meaning_of, size_refusal};
 
 use scale::{Godel, Hours, Luk, Refusal, Scale};
@@ -25,6 +26,17 @@ pub trait OnScale {
 }
 
 impl ScaleKind {
+    pub(crate) fn of_word(word: &[u8]) -> Option<ScaleKind>
+        ensures { result ≡ worded word.now }
+    {
+        match word {
+            b"luk" => Some(ScaleKind::Luk),
+            b"godel" => Some(ScaleKind::Godel),
+            b"hours" => Some(ScaleKind::Hours),
+            _ => None,
+        }
+    }
+
     // Runs the task on the scale of this kind and size, or refuses the size.
     pub fn run<T: OnScale + Drop>(self, size: u8, task: T) -> Result<T::Answer, Refusal>
         ensures { Answers (size_refusal self size) result (λ a. T.answers task (meaning_of self size) a) }

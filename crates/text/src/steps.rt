@@ -1,8 +1,9 @@
 // What each line does to a draft.
-ghost use Rattle.std.specs.Prelude.{◌≡◌, ◌+◌, ◌^◌, ◌<◌, map, length};
-ghost use Rattle.text.specs.Drafting.{state_of, placed};
+ghost use Rattle.std.specs.Prelude.{◌≡◌, ◌+◌, ◌^◌, ◌<◌, map, length, Some};
+ghost use Rattle.book.specs.Ledger.{clause};
+ghost use Rattle.text.specs.Drafting.{state_of};
 ghost use Rattle.text.specs.Entries.{rule_of};
-ghost use Rattle.text.specs.Meaning.{Did, scaled, may_declare, declared, ruled, obeyed, row_read};
+ghost use Rattle.text.specs.Meaning.{Did, scaled, may_declare, declared, entering, ruled, obeyed, row_read};
 ghost use Rattle.text.specs.Parsing.{line_of};
 ghost use Rattle.text.specs.Rows.{row};
 ghost use Rattle.text.specs.Shapes.{seen_line, seen_lead, seen_term};
@@ -10,26 +11,16 @@ ghost use Rattle.text.specs.Shapes.{seen_line, seen_lead, seen_term};
 use super::checks::{check_line, is_blank};
 use super::cutting::cut;
 use super::drafts::{Draft, ScaleSize};
-use super::entries::{body_in, head_in, statement};
 use super::faults::{LineFault, Place, ReadFault};
 use super::numerals::capped_value;
 use super::parsing::parse_line;
 use super::shapes::{Lead, Line, Term};
 use super::sizes::{ScaleKind, scale_levels};
-use scale::Refusal;
+use book::{Head, Literal};
 use std::alloc::Global;
 
 // The longest name.
 const LONGEST_NAME: usize = 12;
-
-fn at_place<T>(answer: Result<T, Refusal>, place: Place) -> Result<T, ReadFault>
-    ensures { result ≡ placed answer place }
-{
-    match answer {
-        Ok(value) => Ok(value),
-        Err(refusal) => Err(ReadFault::Engine(refusal, place)),
-    }
-}
 
 impl<'a> Draft<'a> {
     fn set_scale(&mut self, kind: ScaleKind, size: u8, place: Place) -> Result<(), ReadFault>
@@ -38,8 +29,10 @@ impl<'a> Draft<'a> {
         if self.scale.is_some() {
             return Err(ReadFault::Line(LineFault::Shape(place)));
         }
-        let levels = at_place(scale_levels(kind, size), place)?;
-        at_place(self.book.make(levels, 0), place)?;
+        let levels = scale_levels(kind, size).map_err(|refusal| ReadFault::Engine(refusal, place))?;
+        self.book
+            .make(levels, 0)
+            .map_err(|refusal| ReadFault::Engine(refusal, place))?;
         self.scale = Some(ScaleSize { kind, size });
         Ok(())
     }
@@ -57,11 +50,12 @@ impl<'a> Draft<'a> {
         if !self.may_declare() {
             return Err(ReadFault::Line(LineFault::Shape(place)));
         }
-        if name.len() > LONGEST_NAME || statement(self.names.as_slice(), name).is_some() {
+        if name.len() > LONGEST_NAME || self.names.number(name).is_some() {
             return Err(ReadFault::Line(LineFault::Name(place)));
         }
-        let count = (self.names.len() + 1) as u8;
-        at_place(self.book.make(self.book.levels(), count), place)?;
+        self.book
+            .make(self.book.levels(), self.names.count() + 1)
+            .map_err(|refusal| ReadFault::Engine(refusal, place))?;
         self.names.push(name)?;
         Ok(())
     }
@@ -79,17 +73,27 @@ impl<'a> Draft<'a> {
         if self.scale.is_none() {
             return Err(ReadFault::Line(LineFault::Shape(place)));
         }
-        let Some(head) = head_in(self.names.as_slice(), lead) else {
+        let Some(head) = self.names.head(lead) else {
             return Err(ReadFault::Line(LineFault::Name(place)));
         };
-        let Some(literals) = body_in(heap, self.names.as_slice(), body)? else {
+        let Some(literals) = self.names.body(heap, body)? else {
             return Err(ReadFault::Line(LineFault::Name(place)));
         };
-        at_place(
-            self.book
-                .enter(head, capped_value(weight), literals.as_slice()),
-            place,
-        )
+        self.enter_rule(head, capped_value(weight), literals.as_slice(), place)
+    }
+
+    fn enter_rule(
+        &mut self,
+        head: Head,
+        weight: u8,
+        body: &[Literal],
+        place: Place,
+    ) -> Result<(), ReadFault>
+        ensures { Did (entering (state_of self.old) place (Some (clause head weight body.now))) result (state_of self.new) }
+    {
+        self.book
+            .enter(head, weight, body)
+            .map_err(|refusal| ReadFault::Engine(refusal, place))
     }
 
     fn obey(&mut self, heap: Global, said: Line<'a>, place: Place) -> Result<(), ReadFault>

@@ -1,10 +1,10 @@
-use Rattle.std.proofs.Common.{◌≡◌, map, length, None, Ok, Err, vec_items, sym, refl, ap, ◌∙◌, subst, ap₂}
-use Rattle.std.proofs.lemmas.List.{length-map}
+use Rattle.std.proofs.Common.{◌≡◌, None, Ok, Err, sym, refl, ap, ◌∙◌, subst, ap₂}
 use Rattle.std.proofs.lemmas.Result.{err_from_is_err_and}
 use Rattle.book.specs.View.{ledger_of}
 use Rattle.text.specs.Drafting.{state_of}
+use Rattle.text.specs.Entries.{names_of}
 use Rattle.text.specs.Meaning.{state, start, rows_read, Means, Did}
-use Rattle.text.specs.Naming.{less_names, reading_of}
+use Rattle.text.specs.Naming.{less_names}
 use Rattle.text.specs.Parsing.{line_of}
 use Rattle.text.specs.Rows.{lines_of}
 use Rattle.text.specs.declared.faults.LineFault.TheVariants.{Shape}
@@ -15,8 +15,8 @@ use Rattle.text.proofs.reading.read_named.Goals as goal
 use Rattle.text.proofs.reading.read_named.Goals.{After-read_lines}
 
 -- the draft that the reading begins with
-begun : (c : After-read_lines) → state None (map (λ x. x.now) (vec_items c.new.result)) (ledger_of c.in_ok-new.field-0) ≡ start
-begun c = ap₂ (λ l b. state None (map (λ x. x.now) l) b) c.new.ensures.items c.in_ok-new.ensures
+begun : (c : After-read_lines) → state None (names_of c.new.result) (ledger_of c.in_ok-new.field-0) ≡ start
+begun c = ap₂ (state None) c.new.ensures c.in_ok-new.ensures
 
 pub returns-in_err-check_length : goal.returns-in_err-check_length
 returns-in_err-check_length c =
@@ -40,10 +40,9 @@ pub returns : goal.returns
 returns c =
     let ran = sym (ap (λ s. rows_read line_of s (lines_of c.args.text.now)) (begun (goal.at.returns c).After-read_lines)) ∙ c.in_ok-read_lines.ensures in
     let st = state_of c.read_lines.new.draft in
-    let counted : length (map (λ x. x.now) (vec_items c.read_lines.new.draft.names)) ≡ length c.as_slice.result.now = length-map (vec_items c.read_lines.new.draft.names) (λ x. x.now) ∙ sym (ap length c.as_slice.ensures.value) in
     record {
       only = means_once c.args.text.now;
-      answer = subst (λ r. Means c.args.text.now (Ok (record { reading = r; ledger = st.ledger }))) (ap (reading_of c.in-Some.scale) counted ∙ sym c.reading_of-reading.ensures) (means_some c.args.text.now c.in_ok-check_length.field-0 c.in_ok-check_length.ensures st ran c.in-Some.scale c.in-Some.is);
+      answer = subst (λ r. Means c.args.text.now (Ok (record { reading = r; ledger = st.ledger }))) (sym c.reading_of-reading.ensures) (means_some c.args.text.now c.in_ok-check_length.field-0 c.in_ok-check_length.ensures st ran c.in-Some.scale c.in-Some.is);
       names = declares c.args.text.now st ran;
       names_only = declares_once c.args.text.now;
     }
