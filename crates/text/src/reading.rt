@@ -18,7 +18,7 @@ use std::alloc::Global;
 const LONGEST_TEXT: usize = 8192;
 
 // What a text says of its scale, and how many statements it declares.
-#[derive(Clone, Copy)]
+#[derive(Clone, Copy, PartialEq, Eq, Debug)]
 pub struct Reading {
     pub kind: ScaleKind,
     pub size: u8,

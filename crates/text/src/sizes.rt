@@ -1,17 +1,31 @@
 // The kinds of scale, and what is done on a scale whose kind is known only at run time.
-ghost use Rattle.std.specs.Prelude.{◌≡◌};
+ghost use Rattle.std.specs.Prelude.{◌≡◌, Some};
 ghost use Rattle.scale.specs.Causes.{Answers, answered};
 ghost use Rattle.scale.specs.Meaning.{Meaning};
 ghost use Rattle.text.specs.Parsing.{worded};
+ghost use Rattle.text.specs.Shapes.{kind_word};
 ghost use Rattle.text.specs.Sizes.{levels_of, meaning_of, size_refusal};
 
 use scale::{Godel, Hours, Luk, Refusal, Scale};
+use std::fmt;
 
 #[derive(Clone, Copy, PartialEq, Eq, Debug)]
 pub enum ScaleKind {
     Luk,
     Godel,
     Hours,
+}
+
+impl fmt::Display for ScaleKind {
+    ghost output = { λ kind. Some (kind_word kind) };
+
+    fn fmt<W: fmt::Write>(&self, f: &mut fmt::Formatter<W>) -> fmt::Result {
+        f.write_str(match self {
+            ScaleKind::Luk => "luk",
+            ScaleKind::Godel => "godel",
+            ScaleKind::Hours => "hours",
+        })
+    }
 }
 
 // A task for any scale. It is generic, so that each kind of scale runs it at its own speed.
