@@ -47,8 +47,5 @@ pub(crate) fn check_line<'a>(
     ensures { MatchResult result (λ l. told line.now (map said tokens.now) (option_map seen_line shape.entry) place ≡ Ok (seen_line l)) (λ e. told line.now (map said tokens.now) (option_map seen_line shape.entry) place ≡ Err e) }
 {
     check_letters(line, tokens, place)?;
-    match shape {
-        Some(said) => Ok(said),
-        None => Err(LineFault::Shape(place)),
-    }
+    shape.ok_or(LineFault::Shape(place))
 }

@@ -3,6 +3,7 @@ ghost use Rattle.std.specs.Prelude.{◌≤◌, vec_len};
 
 use super::sizes::ScaleKind;
 use book::Book;
+use std::alloc::Global;
 
 #[derive(Clone, Copy)]
 pub(crate) struct ScaleSize {
@@ -19,6 +20,7 @@ pub(crate) struct Names<'a> {
 
 #[derive(Drop)]
 pub(crate) struct Draft<'a> {
+    pub(crate) heap: Global,
     pub(crate) scale: Option<ScaleSize>,
     pub(crate) names: Names<'a>,
     pub(crate) book: Book,

@@ -52,13 +52,13 @@ fn check_length(text: &[u8]) -> Result<(), TextFault>
     Ok(())
 }
 
-fn read_lines<'a>(heap: Global, text: &'a [u8], draft: &mut Draft<'a>) -> Result<(), ReadFault>
+fn read_lines<'a>(text: &'a [u8], draft: &mut Draft<'a>) -> Result<(), ReadFault>
     requires { length text.now ≤ 8192 }
     ensures { Did (rows_read line_of (state_of draft.old) (lines_of text.now)) result (state_of draft.new) }
 {
     let mut place = Place { line: 1, byte: 0 };
     for line in text.split(|b| *b == b'\n') {
-        draft.read_line(heap, line, place)?;
+        draft.read_line(line, place)?;
         place = Place {
             line: place.line + 1,
             byte: place.byte + line.len() + 1,
@@ -85,16 +85,13 @@ pub fn read_named<'a>(heap: Global, text: &'a [u8], book: &mut Book) -> Result<N
     ensures names_only { DeclaresOnce text.now }
 {
     check_length(text)?;
-    let mut draft = Draft {
-        scale: None,
-        names: Names::new(heap),
-        book: Book::new(heap)?,
-    };
-    read_lines(heap, text, &mut draft)?;
+    let mut draft = Draft::new(heap)?;
+    read_lines(text, &mut draft)?;
     let Draft {
         scale,
         names,
         book: fresh,
+        ..
     } = draft;
     match scale {
         None => Err(ReadFault::Line(LineFault::Shape(place_of(text, text.len())))),
@@ -109,17 +106,11 @@ pub fn read_named<'a>(heap: Global, text: &'a [u8], book: &mut Book) -> Result<N
     }
 }
 
-fn less_names(answer: Result<Named, ReadFault>) -> Result<Reading, ReadFault>
-    ensures { result ≡ less_names answer.entry }
-{
-    let named = answer?;
-    Ok(named.reading)
-}
-
 // As read_named, less the names.
 pub fn read(heap: Global, text: &[u8], book: &mut Book) -> Result<Reading, ReadFault>
     ensures answer { Reads text.now (ledger_of book.old) result (ledger_of book.new) }
     ensures only { Once text.now }
 {
-    less_names(read_named(heap, text, book))
+    let named = read_named(heap, text, book)?;
+    Ok(named.reading)
 }

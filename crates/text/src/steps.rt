@@ -1,28 +1,40 @@
 // What each line does to a draft.
-ghost use Rattle.std.specs.Prelude.{◌≡◌, ◌+◌, ◌^◌, ◌<◌, map, length, Some};
+ghost use Rattle.std.specs.Prelude.{◌≡◌, ◌+◌, ◌^◌, ◌<◌, map, length, Some, IfOk};
 ghost use Rattle.book.specs.Ledger.{clause};
 ghost use Rattle.text.specs.Drafting.{state_of};
 ghost use Rattle.text.specs.Entries.{rule_of};
-ghost use Rattle.text.specs.Meaning.{Did, scaled, may_declare, declared, entering, ruled, obeyed, row_read};
+ghost use Rattle.text.specs.Meaning.{Did, start, scaled, may_declare, declared, entering, ruled, obeyed, row_read};
 ghost use Rattle.text.specs.Parsing.{line_of};
 ghost use Rattle.text.specs.Rows.{row};
 ghost use Rattle.text.specs.Shapes.{seen_line, seen_lead, seen_term};
 
 use super::checks::{check_line, is_blank};
 use super::cutting::cut;
-use super::drafts::{Draft, ScaleSize};
+use super::drafts::{Draft, Names, ScaleSize};
 use super::faults::{LineFault, Place, ReadFault};
 use super::numerals::capped_value;
 use super::parsing::parse_line;
 use super::shapes::{Lead, Line, Term};
 use super::sizes::{ScaleKind, scale_levels};
-use book::{Head, Literal};
-use std::alloc::Global;
+use book::{Book, Head, Literal};
+use std::alloc::{AllocError, Global};
 
 // The longest name.
 const LONGEST_NAME: usize = 12;
 
 impl<'a> Draft<'a> {
+    // Nothing has been read yet.
+    pub(crate) fn new(heap: Global) -> Result<Draft<'a>, AllocError>
+        ensures { IfOk result (λ d. state_of d ≡ start) }
+    {
+        Ok(Draft {
+            heap,
+            scale: None,
+            names: Names::new(heap),
+            book: Book::new(heap)?,
+        })
+    }
+
     fn set_scale(&mut self, kind: ScaleKind, size: u8, place: Place) -> Result<(), ReadFault>
         ensures { Did (scaled (state_of self.old) place kind size) result (state_of self.new) }
     {
@@ -62,7 +74,6 @@ impl<'a> Draft<'a> {
 
     fn enter(
         &mut self,
-        heap: Global,
         lead: Lead<'a>,
         weight: &[u8],
         body: &[Term<'a>],
@@ -76,7 +87,7 @@ impl<'a> Draft<'a> {
         let Some(head) = self.names.head(lead) else {
             return Err(ReadFault::Line(LineFault::Name(place)));
         };
-        let Some(literals) = self.names.body(heap, body)? else {
+        let Some(literals) = self.names.body(self.heap, body)? else {
             return Err(ReadFault::Line(LineFault::Name(place)));
         };
         self.enter_rule(head, capped_value(weight), literals.as_slice(), place)
@@ -96,38 +107,27 @@ impl<'a> Draft<'a> {
             .map_err(|refusal| ReadFault::Engine(refusal, place))
     }
 
-    fn obey(&mut self, heap: Global, said: Line<'a>, place: Place) -> Result<(), ReadFault>
+    fn obey(&mut self, said: Line<'a>, place: Place) -> Result<(), ReadFault>
         ensures { Did (obeyed (state_of self.old) place (seen_line said.entry)) result (state_of self.new) }
     {
         match said {
             Line::Scale(kind, size) => self.set_scale(kind, capped_value(size), place),
             Line::Name(name) => self.declare(name, place),
-            Line::Rule(lead, weight, body) => self.enter(
-                heap,
-                lead,
-                weight,
-                body.as_slice(),
-                place,
-            ),
+            Line::Rule(lead, weight, body) => self.enter(lead, weight, body.as_slice(), place),
         }
     }
 
     // Reads one line.
-    pub(crate) fn read_line(
-        &mut self,
-        heap: Global,
-        line: &'a [u8],
-        place: Place,
-    ) -> Result<(), ReadFault>
+    pub(crate) fn read_line(&mut self, line: &'a [u8], place: Place) -> Result<(), ReadFault>
         requires { place.byte + length line.now < 2 ^ 64 }
         ensures { Did (row_read line_of (state_of self.old) (row place line.now)) result (state_of self.new) }
     {
         if is_blank(line) {
             return Ok(());
         }
-        let tokens = cut(heap, line, place.byte)?;
-        let shape = parse_line(heap, tokens.as_slice())?;
+        let tokens = cut(self.heap, line, place.byte)?;
+        let shape = parse_line(self.heap, tokens.as_slice())?;
         let said = check_line(line, tokens.as_slice(), shape, place)?;
-        self.obey(heap, said, place)
+        self.obey(said, place)
     }
 }

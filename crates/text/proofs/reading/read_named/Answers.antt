@@ -1,9 +1,7 @@
-use Rattle.std.proofs.Common.{◌≡◌, None, Ok, Err, sym, refl, ap, ◌∙◌, subst, ap₂}
+use Rattle.std.proofs.Common.{Ok, Err, sym, refl, ap, ◌∙◌, subst}
 use Rattle.std.proofs.lemmas.Result.{err_from_is_err_and}
-use Rattle.book.specs.View.{ledger_of}
 use Rattle.text.specs.Drafting.{state_of}
-use Rattle.text.specs.Entries.{names_of}
-use Rattle.text.specs.Meaning.{state, start, rows_read, Means, Did}
+use Rattle.text.specs.Meaning.{rows_read, Means, Did}
 use Rattle.text.specs.Naming.{less_names}
 use Rattle.text.specs.Parsing.{line_of}
 use Rattle.text.specs.Rows.{lines_of}
@@ -12,11 +10,6 @@ use Rattle.text.specs.declared.faults.ReadFault.TheVariants.{Line}
 use Rattle.text.proofs.Outcomes.{fit, reads_long, reads_unread, reads_stopped, means_none, means_some, means_once}
 use Rattle.text.proofs.Naming.{declares, declares_once, none_named}
 use Rattle.text.proofs.reading.read_named.Goals as goal
-use Rattle.text.proofs.reading.read_named.Goals.{After-read_lines}
-
--- the draft that the reading begins with
-begun : (c : After-read_lines) → state None (names_of c.new.result) (ledger_of c.in_ok-new.field-0) ≡ start
-begun c = ap₂ (state None) c.new.ensures c.in_ok-new.ensures
 
 pub returns-in_err-check_length : goal.returns-in_err-check_length
 returns-in_err-check_length c =
@@ -29,16 +22,16 @@ read_lines-requires c = fit c.args.text.now c.in_ok-check_length.field-0 c.in_ok
 pub returns-in_err-read_lines : goal.returns-in_err-read_lines
 returns-in_err-read_lines c =
     let p = err_from_is_err_and c.from_residual-in_err-read_lines.result c.from_residual-in_err-read_lines.ensures.1 in
-    record { only = means_once c.args.text.now; answer = reads_stopped c.args.text.now _ _ refl c.in_ok-check_length.field-0 c.in_ok-check_length.ensures c.in_err-read_lines.field-0.0 (state_of c.read_lines.new.draft) (less_names c.from_residual-in_err-read_lines.result) (subst (λ s. Did (rows_read line_of s (lines_of c.args.text.now)) (Err c.in_err-read_lines.field-0.0) (state_of c.read_lines.new.draft)) (begun (goal.at.returns-in_err-read_lines c).After-read_lines) c.in_err-read_lines.ensures) (ap less_names (p.1 ∙ ap Err p.2)); names = none_named _ c.from_residual-in_err-read_lines.result _ (p.1 ∙ ap Err p.2); names_only = declares_once c.args.text.now }
+    record { only = means_once c.args.text.now; answer = reads_stopped c.args.text.now _ _ refl c.in_ok-check_length.field-0 c.in_ok-check_length.ensures c.in_err-read_lines.field-0.0 (state_of c.read_lines.new.draft) (less_names c.from_residual-in_err-read_lines.result) (subst (λ s. Did (rows_read line_of s (lines_of c.args.text.now)) (Err c.in_err-read_lines.field-0.0) (state_of c.read_lines.new.draft)) c.in_ok-draft.ensures c.in_err-read_lines.ensures) (ap less_names (p.1 ∙ ap Err p.2)); names = none_named _ c.from_residual-in_err-read_lines.result _ (p.1 ∙ ap Err p.2); names_only = declares_once c.args.text.now }
 
 pub returns-in-None : goal.returns-in-None
 returns-in-None c =
-    let ran = sym (ap (λ s. rows_read line_of s (lines_of c.args.text.now)) (begun (goal.at.returns-in-None c).After-read_lines)) ∙ c.in_ok-read_lines.ensures in
+    let ran = sym (ap (λ s. rows_read line_of s (lines_of c.args.text.now)) c.in_ok-draft.ensures) ∙ c.in_ok-read_lines.ensures in
     record { only = means_once c.args.text.now; answer = (subst (λ p. Means c.args.text.now (Err (Line (Shape p)))) (sym c.place_of.ensures) (means_none c.args.text.now c.in_ok-check_length.field-0 c.in_ok-check_length.ensures (state_of c.read_lines.new.draft) ran c.in-None.is), refl); names = tt; names_only = declares_once c.args.text.now }
 
 pub returns : goal.returns
 returns c =
-    let ran = sym (ap (λ s. rows_read line_of s (lines_of c.args.text.now)) (begun (goal.at.returns c).After-read_lines)) ∙ c.in_ok-read_lines.ensures in
+    let ran = sym (ap (λ s. rows_read line_of s (lines_of c.args.text.now)) c.in_ok-draft.ensures) ∙ c.in_ok-read_lines.ensures in
     let st = state_of c.read_lines.new.draft in
     record {
       only = means_once c.args.text.now;
@@ -47,7 +40,7 @@ returns c =
       names_only = declares_once c.args.text.now;
     }
 
-pub returns-in_err-new : goal.returns-in_err-new
-returns-in_err-new c =
-    let p = err_from_is_err_and c.from_residual-in_err-new.result c.from_residual-in_err-new.ensures.1 in
-    record { only = means_once c.args.text.now; answer = reads_unread c.args.text.now _ _ refl (less_names c.from_residual-in_err-new.result) (ap less_names (p.1 ∙ ap Err p.2)); names = none_named _ c.from_residual-in_err-new.result _ (p.1 ∙ ap Err p.2); names_only = declares_once c.args.text.now }
+pub returns-in_err-draft : goal.returns-in_err-draft
+returns-in_err-draft c =
+    let p = err_from_is_err_and c.from_residual-in_err-draft.result c.from_residual-in_err-draft.ensures.1 in
+    record { only = means_once c.args.text.now; answer = reads_unread c.args.text.now _ _ refl (less_names c.from_residual-in_err-draft.result) (ap less_names (p.1 ∙ ap Err p.2)); names = none_named _ c.from_residual-in_err-draft.result _ (p.1 ∙ ap Err p.2); names_only = declares_once c.args.text.now }
