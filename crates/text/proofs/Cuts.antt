@@ -1,8 +1,8 @@
 -- One turn of the cut of a line into tokens.
-use Rattle.std.proofs.Common.{◌≡◌, ℕ, zero, suc, ◌+◌, ◌<◌, ◌≤◌, true, false, List, [], ◌∷◌, ◌++◌, length, get_or, take, drop, Some, None, Option, sym, refl, ap, ◌∙◌, ⊎_elim, append_assoc, append-nil, arith}
+use Rattle.std.proofs.Common.{◌≡◌, ℕ, zero, suc, ◌+◌, ◌<◌, ◌≤◌, true, false, List, [], ◌∷◌, ◌++◌, length, get_or, take, drop, Some, None, Option, max, sym, refl, ap, ap₂, ◌∙◌, ⊎_elim, append_assoc, append-nil, arith}
 use Rattle.std.specs.List.{prefix_len}
-use Rattle.std.proofs.lemmas.List.{at_drop_more, at_drop_all, drop-drop}
-use Rattle.std.proofs.lemmas.List.Sums.{prefix_len-drop_yes}
+use Rattle.std.proofs.lemmas.List.{at_drop_more}
+use Rattle.std.proofs.lemmas.List.Sums.{prefix_len-drop_yes, prefix_len-drop_no}
 use Rattle.std.proofs.lemmas.Bool.{cond-true, cond-false, cases_Bool}
 use Rattle.text.specs.Bytes.{wordly, sign_of}
 use Rattle.text.specs.Tokens.{Tok, token, mark, Piece, run, run_spell, grown, stopped, pieces, tokens_in, tokens_of}
@@ -49,39 +49,23 @@ run_there : (i : ℕ) (bs : List ℕ) (k : ℕ) → 0 < k → k ≡ prefix_len w
 run_there i bs zero h e = absurd (omega arith)
 run_there i bs (suc k) h e = run_first i bs k e
 
-module _ (start : ℕ) (line : List ℕ) (i : ℕ) (inside : i < length line) where
-  pub some_run : wordly (get_or line i 0) ≡ true → 0 < prefix_len wordly (drop i line)
-  some_run w = omega (arith, prefix_len-drop_yes wordly line i 0 inside w)
+-- the piece at the front takes k bytes: a run of word bytes, or one other byte
+module _ (i : ℕ) (bs : List ℕ) (k : ℕ) (inside : 0 < length bs) (piece : k ≡ max (prefix_len wordly bs) 1) (done all : List Tok) (inv : done ++ tokens_of i bs ≡ all) where
+  pub word_more : wordly (get_or bs 0 0) ≡ true → (done ++ token (run_spell (take k bs)) i ∷ []) ++ tokens_of (i + k) (drop k bs) ≡ all
+  word_more w =
+      let some : 0 < prefix_len wordly bs = omega (arith, prefix_len-drop_yes wordly bs 0 0 inside w) in
+      append_assoc done (token (run_spell (take k bs)) i ∷ []) (tokens_of (i + k) (drop k bs)) ∙ sym (ap (λ ps. done ++ tokens_in ps) (run_there i bs k (omega (arith, piece)) (omega (arith, piece, some)))) ∙ inv
 
-  module _ (done all : List Tok) (inv : done ++ tokens_of (start + i) (drop i line) ≡ all) where
-    pub word_more : (k : ℕ) → wordly (get_or line i 0) ≡ true → k ≡ prefix_len wordly (drop i line) → (done ++ token (run_spell (take k (drop i line))) (start + i) ∷ []) ++ tokens_of (start + (i + k)) (drop (i + k) line) ≡ all
-    word_more k w e =
-        let some : 0 < k = omega (arith, some_run w, e) in
-        let at : start + i + k ≡ start + (i + k) = omega arith in
-        let here : tokens_of (start + i) (drop i line) ≡ token (run_spell (take k (drop i line))) (start + i) ∷ tokens_of (start + (i + k)) (drop (i + k) line) =
-        ap tokens_in (run_there (start + i) (drop i line) k some e) ∙ ap (λ n. token (run_spell (take k (drop i line))) (start + i) ∷ tokens_of n (drop k (drop i line))) at ∙ ap (λ l. token (run_spell (take k (drop i line))) (start + i) ∷ tokens_of (start + (i + k)) l) (drop-drop k i line) in
-        append_assoc done (token (run_spell (take k (drop i line))) (start + i) ∷ []) (tokens_of (start + (i + k)) (drop (i + k) line)) ∙ sym (ap (λ l. done ++ l) here) ∙ inv
+  module _ (w : wordly (get_or bs 0 0) ≡ false) where
+    between : (o : Option Mark) → sign_of (get_or bs 0 0) ≡ o → tokens_of i bs ≡ tokens_in (stopped i o (pieces (i + k) (drop k bs)))
+    between o e =
+        let one : k ≡ 1 = omega (arith, piece, prefix_len-drop_no wordly bs 0 0 inside w) in
+        let next : suc i ≡ i + k = omega (arith, one) in
+        ap tokens_in (at_drop_more (pieces i) bs 0 0 inside ∙ cond-false (wordly (get_or bs 0 0)) _ _ w) ∙ ap (λ x. tokens_in (stopped i x (pieces (suc i) (drop 1 bs)))) e ∙ ap₂ (λ n l. tokens_in (stopped i o (pieces n l))) next (sym (ap (λ n. drop n bs) one))
 
-    between : wordly (get_or line i 0) ≡ false → tokens_of (start + i) (drop i line) ≡ tokens_in (stopped (start + i) (sign_of (get_or line i 0)) (pieces (suc (start + i)) (drop (i + 1) line)))
-    between w =
-        ap tokens_in (at_drop_more (pieces (start + i)) line i 0 inside ∙ cond-false (wordly (get_or line i 0)) _ _ w)
+    pub mark_more : (m : Mark) → sign_of (get_or bs 0 0) ≡ Some m → (done ++ token (mark m) i ∷ []) ++ tokens_of (i + k) (drop k bs) ≡ all
+    mark_more m e =
+        append_assoc done (token (mark m) i ∷ []) (tokens_of (i + k) (drop k bs)) ∙ sym (ap (λ l. done ++ l) (between (Some m) e)) ∙ inv
 
-    next : tokens_of (suc (start + i)) (drop (i + 1) line) ≡ tokens_of (start + (i + 1)) (drop (i + 1) line)
-    next = let at : suc (start + i) ≡ start + (i + 1) = omega arith in ap (λ n. tokens_of n (drop (i + 1) line)) at
-
-    pub mark_more : (m : Mark) → wordly (get_or line i 0) ≡ false → sign_of (get_or line i 0) ≡ Some m → (done ++ token (mark m) (start + i) ∷ []) ++ tokens_of (start + (i + 1)) (drop (i + 1) line) ≡ all
-    mark_more m w e =
-        let here : tokens_of (start + i) (drop i line) ≡ token (mark m) (start + i) ∷ tokens_of (start + (i + 1)) (drop (i + 1) line) =
-        between w ∙ ap (λ o. tokens_in (stopped (start + i) o (pieces (suc (start + i)) (drop (i + 1) line)))) e ∙ ap (λ l. token (mark m) (start + i) ∷ l) next in
-        append_assoc done (token (mark m) (start + i) ∷ []) (tokens_of (start + (i + 1)) (drop (i + 1) line)) ∙ sym (ap (λ l. done ++ l) here) ∙ inv
-
-    pub gap_more : wordly (get_or line i 0) ≡ false → sign_of (get_or line i 0) ≡ None → done ++ tokens_of (start + (i + 1)) (drop (i + 1) line) ≡ all
-    gap_more w e =
-        let here : tokens_of (start + i) (drop i line) ≡ tokens_of (start + (i + 1)) (drop (i + 1) line) =
-        between w ∙ ap (λ o. tokens_in (stopped (start + i) o (pieces (suc (start + i)) (drop (i + 1) line)))) e ∙ next in
-        sym (ap (λ l. done ++ l) here) ∙ inv
-
-pub cut_all : (start : ℕ) (line : List ℕ) (i : ℕ) (done all : List Tok) → length line ≤ i → done ++ tokens_of (start + i) (drop i line) ≡ all → done ≡ all
-cut_all start line i done all h inv =
-    let none : tokens_of (start + i) (drop i line) ≡ [] = at_drop_all (tokens_of (start + i)) line i h in
-    sym (append-nil done) ∙ sym (ap (λ l. done ++ l) none) ∙ inv
+    pub gap_more : sign_of (get_or bs 0 0) ≡ None → done ++ tokens_of (i + k) (drop k bs) ≡ all
+    gap_more e = sym (ap (λ l. done ++ l) (between None e)) ∙ inv

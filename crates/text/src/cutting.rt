@@ -26,19 +26,17 @@ pub(crate) fn cut<'a>(
     ensures { IfOk result (λ v. map seen v.items ≡ tokens_of start line.now) }
 {
     let mut tokens = Vec::new(heap);
-    let mut i = 0;
-    while i < line.len() {
-        if is_word_byte(line[i]) {
-            let rest = &line[i..];
-            let end = i + word_len(rest);
-            tokens.push(word_token(&line[i..end], start + i))?;
-            i = end;
-        } else {
-            if let Some(mark) = mark_of(line[i]) {
-                tokens.push(Token::Mark(mark, start + i))?;
-            }
-            i += 1;
+    let mut rest = line;
+    let mut offset = start;
+    while let [first, ..] = rest {
+        let (piece, after) = rest.split_at(word_len(rest).max(1));
+        if is_word_byte(*first) {
+            tokens.push(word_token(piece, offset))?;
+        } else if let Some(mark) = mark_of(*first) {
+            tokens.push(Token::Mark(mark, offset))?;
         }
+        offset += piece.len();
+        rest = after;
     }
     Ok(tokens)
 }
