@@ -1,8 +1,8 @@
 -- What a text means: its lines are obeyed one after another, and the first that is faulty decides.
-use Rattle.std.specs.Prelude.{◌≡◌, ℕ, ◌+◌, Bool, cond, not, ◌&&◌, ◌||◌, List, [], ◌∷◌, ◌++◌, map, length, is_some, Some, None, Ok, Err, Option, Result, ◌==◌, nat_lt}
+use Rattle.std.specs.Prelude.{◌≡◌, ℕ, ◌+◌, Bool, cond, not, ◌&&◌, ◌||◌, List, [], ◌∷◌, ◌++◌, map, length, is_some, Some, None, Ok, Err, Option, Result, ok_or, ◌==◌, nat_lt}
 use Rattle.scale.specs.declared.refusal.Refusal.{Refusal}
-use Rattle.book.specs.Ledger.{Clause, Ledger}
 use Rattle.std.specs.List.{list_all}
+use Rattle.book.specs.Ledger.{Clause, Ledger}
 use Rattle.book.specs.Calls.{empty, make_refusal, enter_refusal, entered}
 use Rattle.text.specs.Bytes.{allowed}
 use Rattle.text.specs.Entries.{index_of, rule_of}
@@ -34,13 +34,9 @@ abbrev pub in_line : {A B : Type 0} → Result A TextFault → Result B LineFaul
 in_line (Ok a) r = r
 in_line (Err e) r = Err (Text e)
 
-abbrev pub shape_or : Option Content → Place → Result Content LineFault
-shape_or None place = Err (Shape place)
-shape_or (Some l) place = Ok l
-
 -- what a line says, or its text fault, or that it has no shape
 abbrev pub told : List ℕ → List Spell → Option Content → Place → Result Content LineFault
-told bytes tokens shape place = in_line (unlettered bytes tokens place) (shape_or shape place)
+told bytes tokens shape place = in_line (unlettered bytes tokens place) (ok_or shape (Shape place))
 
 -- what has been read so far: the scale, the names in their order, and the book's ledger
 pub record State : Type 0 where

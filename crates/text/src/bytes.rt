@@ -1,8 +1,6 @@
 // What the bytes of a text are for.
 ghost use Rattle.std.specs.Prelude.{◌≡◌};
-ghost use Rattle.std.specs.List.{prefix_len};
-ghost use Rattle.std.specs.Str.{bytes_eq};
-ghost use Rattle.std.specs.List.{list_all};
+ghost use Rattle.std.specs.List.{list_all, prefix_len};
 ghost use Rattle.text.specs.Bytes.{digit, wordly, sign_of, allowed};
 
 use super::tokens::Mark;
@@ -38,17 +36,11 @@ pub(crate) fn all_allowed(line: &[u8]) -> bool
     line.iter().all(|b| is_allowed(*b))
 }
 
-fn is_digit(b: u8) -> bool
-    ensures { result ≡ digit b }
-{
-    matches!(b, b'0'..=b'9')
-}
-
 // Is the word made of digits only?
 pub(crate) fn all_digits(word: &[u8]) -> bool
     ensures { result ≡ list_all digit word.now }
 {
-    word.iter().all(|b| is_digit(*b))
+    word.iter().all(|b| b.is_ascii_digit())
 }
 
 // How many bytes of a word stand at the front.
@@ -56,10 +48,4 @@ pub(crate) fn word_len(bytes: &[u8]) -> usize
     ensures { result ≡ prefix_len wordly bytes.now }
 {
     bytes.iter().take_while(|b| is_word_byte(**b)).count()
-}
-
-pub(crate) fn same(a: &[u8], b: &[u8]) -> bool
-    ensures { result ≡ bytes_eq a.now b.now }
-{
-    a == b
 }

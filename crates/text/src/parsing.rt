@@ -31,6 +31,7 @@ fn parse_by<'a>(
 ) -> Result<Option<Line<'a>>, AllocError>
     ensures { IfOk result (λ l. option_map seen_line l ≡ line_by verb.now (map said tokens.now)) }
 {
+    // One test after another: in a `match` on the four words the last arm did not prove.
     if verb == b"scale".as_slice() {
         Ok(parse_scale(tokens))
     } else if verb == b"name".as_slice() {

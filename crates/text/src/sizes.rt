@@ -61,6 +61,13 @@ impl ScaleKind {
             ScaleKind::Hours => Ok(task.on_scale(&Hours::new(size)?)),
         }
     }
+
+    // The levels of the scale of this kind and size, or a refusal where there is none.
+    pub(crate) fn levels(self, size: u8) -> Result<u8, Refusal>
+        ensures { result ≡ answered (size_refusal self size) (levels_of self size) }
+    {
+        self.run(size, Levels)
+    }
 }
 
 // How many levels a scale has.
@@ -75,11 +82,4 @@ impl OnScale for Levels {
     fn on_scale<S: Scale>(self, scale: &S) -> u8 {
         scale.levels()
     }
-}
-
-// The levels of a scale, or a refusal where there is none of this size.
-pub(crate) fn scale_levels(kind: ScaleKind, size: u8) -> Result<u8, Refusal>
-    ensures { result ≡ answered (size_refusal kind size) (levels_of kind size) }
-{
-    kind.run(size, Levels)
 }

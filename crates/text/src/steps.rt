@@ -15,7 +15,7 @@ use super::faults::{LineFault, Place, ReadFault};
 use super::numerals::capped_value;
 use super::parsing::parse_line;
 use super::shapes::{Lead, Line, Term};
-use super::sizes::{ScaleKind, scale_levels};
+use super::sizes::ScaleKind;
 use book::{Book, Head, Literal};
 use std::alloc::{AllocError, Global};
 
@@ -41,7 +41,9 @@ impl<'a> Draft<'a> {
         if self.scale.is_some() {
             return Err(ReadFault::Line(LineFault::Shape(place)));
         }
-        let levels = scale_levels(kind, size).map_err(|refusal| ReadFault::Engine(refusal, place))?;
+        let levels = kind
+            .levels(size)
+            .map_err(|refusal| ReadFault::Engine(refusal, place))?;
         self.book
             .make(levels, 0)
             .map_err(|refusal| ReadFault::Engine(refusal, place))?;
