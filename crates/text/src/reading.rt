@@ -93,17 +93,15 @@ pub fn read_named<'a>(heap: Global, text: &'a [u8], book: &mut Book) -> Result<N
         book: fresh,
         ..
     } = draft;
-    match scale {
-        None => Err(ReadFault::Line(LineFault::Shape(place_of(text, text.len())))),
-        Some(scale) => {
-            *book = fresh;
-            let reading = reading_of(scale, &names);
-            Ok(Named {
-                reading,
-                names: names.list,
-            })
-        }
-    }
+    let Some(scale) = scale else {
+        return Err(LineFault::Shape(place_of(text, text.len())).into());
+    };
+    *book = fresh;
+    let reading = reading_of(scale, &names);
+    Ok(Named {
+        reading,
+        names: names.list,
+    })
 }
 
 // As read_named, less the names.

@@ -39,7 +39,7 @@ impl<'a> Draft<'a> {
         ensures { Did (scaled (state_of self.old) place kind size) result (state_of self.new) }
     {
         if self.scale.is_some() {
-            return Err(ReadFault::Line(LineFault::Shape(place)));
+            return Err(LineFault::Shape(place).into());
         }
         let levels = kind
             .levels(size)
@@ -62,10 +62,10 @@ impl<'a> Draft<'a> {
         ensures { Did (declared (state_of self.old) place name.now) result (state_of self.new) }
     {
         if !self.may_declare() {
-            return Err(ReadFault::Line(LineFault::Shape(place)));
+            return Err(LineFault::Shape(place).into());
         }
         if name.len() > LONGEST_NAME || self.names.number(name).is_some() {
-            return Err(ReadFault::Line(LineFault::Name(place)));
+            return Err(LineFault::Name(place).into());
         }
         self.book
             .make(self.book.levels(), self.names.count() + 1)
@@ -74,6 +74,7 @@ impl<'a> Draft<'a> {
         Ok(())
     }
 
+    // A rule over names, which have to be declared.
     fn enter(
         &mut self,
         lead: Lead<'a>,
@@ -84,17 +85,17 @@ impl<'a> Draft<'a> {
         ensures { Did (ruled (state_of self.old) place (rule_of (state_of self.old).names (seen_lead lead.entry) weight.now (map seen_term body.now))) result (state_of self.new) }
     {
         if self.scale.is_none() {
-            return Err(ReadFault::Line(LineFault::Shape(place)));
+            return Err(LineFault::Shape(place).into());
         }
-        let Some(head) = self.names.head(lead) else {
-            return Err(ReadFault::Line(LineFault::Name(place)));
-        };
-        let Some(literals) = self.names.body(self.heap, body)? else {
-            return Err(ReadFault::Line(LineFault::Name(place)));
-        };
+        let head = self.names.head(lead).ok_or(LineFault::Name(place))?;
+        let literals = self
+            .names
+            .body(self.heap, body)?
+            .ok_or(LineFault::Name(place))?;
         self.enter_rule(head, capped_value(weight), literals.as_slice(), place)
     }
 
+    // A rule over the numbers of statements.
     fn enter_rule(
         &mut self,
         head: Head,

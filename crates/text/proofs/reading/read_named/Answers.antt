@@ -1,10 +1,11 @@
-use Rattle.std.proofs.Common.{Ok, Err, sym, refl, ap, ◌∙◌, subst}
+use Rattle.std.proofs.Common.{◌≡◌, length, Ok, Err, sym, refl, ap, ◌∙◌, subst}
 use Rattle.std.proofs.lemmas.Result.{err_from_is_err_and}
+use Rattle.book.specs.View.{ledger_of}
 use Rattle.text.specs.Drafting.{state_of}
-use Rattle.text.specs.Meaning.{rows_read, Means, Did}
+use Rattle.text.specs.Meaning.{rows_read, Means, Did, Reads}
 use Rattle.text.specs.Naming.{less_names}
 use Rattle.text.specs.Parsing.{line_of}
-use Rattle.text.specs.Rows.{lines_of}
+use Rattle.text.specs.Rows.{lines_of, place_at}
 use Rattle.text.specs.declared.faults.LineFault.TheVariants.{Shape}
 use Rattle.text.specs.declared.faults.ReadFault.TheVariants.{Line}
 use Rattle.text.proofs.Outcomes.{fit, reads_long, reads_unread, reads_stopped, means_none, means_some, means_once}
@@ -24,10 +25,16 @@ returns-in_err-read_lines c =
     let p = err_from_is_err_and c.from_residual-in_err-read_lines.result c.from_residual-in_err-read_lines.ensures.1 in
     record { only = means_once c.args.text.now; answer = reads_stopped c.args.text.now _ _ refl c.in_ok-check_length.field-0 c.in_ok-check_length.ensures c.in_err-read_lines.field-0.0 (state_of c.read_lines.new.draft) (less_names c.from_residual-in_err-read_lines.result) (subst (λ s. Did (rows_read line_of s (lines_of c.args.text.now)) (Err c.in_err-read_lines.field-0.0) (state_of c.read_lines.new.draft)) c.in_ok-draft.ensures c.in_err-read_lines.ensures) (ap less_names (p.1 ∙ ap Err p.2)); names = none_named _ c.from_residual-in_err-read_lines.result _ (p.1 ∙ ap Err p.2); names_only = declares_once c.args.text.now }
 
-pub returns-in-None : goal.returns-in-None
-returns-in-None c =
+pub returns-in_default : goal.returns-in_default
+returns-in_default c =
     let ran = sym (ap (λ s. rows_read line_of s (lines_of c.args.text.now)) c.in_ok-draft.ensures) ∙ c.in_ok-read_lines.ensures in
-    record { only = means_once c.args.text.now; answer = (subst (λ p. Means c.args.text.now (Err (Line (Shape p)))) (sym c.place_of.ensures) (means_none c.args.text.now c.in_ok-check_length.field-0 c.in_ok-check_length.ensures (state_of c.read_lines.new.draft) ran c.in-None.is), refl); names = tt; names_only = declares_once c.args.text.now }
+    let fault : c.into.result ≡ Line (Shape (place_at c.args.text.now (length c.args.text.now))) = c.into.ensures ∙ ap (λ p. Line (Shape p)) c.place_of.ensures in
+    record {
+      only = means_once c.args.text.now;
+      answer = subst (λ f. Reads c.args.text.now (ledger_of c.args.book.now) (Err f) (ledger_of c.args.book.now)) (sym fault) (means_none c.args.text.now c.in_ok-check_length.field-0 c.in_ok-check_length.ensures (state_of c.read_lines.new.draft) ran c.in_default.is, refl);
+      names = tt;
+      names_only = declares_once c.args.text.now;
+    }
 
 pub returns : goal.returns
 returns c =
