@@ -26,7 +26,7 @@ pub(crate) fn mark_of(b: u8) -> Option<Mark>
 fn is_allowed(b: u8) -> bool
     ensures { result ≡ allowed b }
 {
-    is_word_byte(b) | (b == b' ') | mark_of(b).is_some()
+    is_word_byte(b) || b == b' ' || mark_of(b).is_some()
 }
 
 // Is every byte of the line allowed?

@@ -55,7 +55,7 @@ impl<'a> Draft<'a> {
     fn may_declare(&self) -> bool
         ensures { result ≡ may_declare (state_of self.now) }
     {
-        self.scale.is_some() & (self.book.rule_count() == 0)
+        self.scale.is_some() && self.book.rule_count() == 0
     }
 
     fn declare(&mut self, name: &'a [u8], place: Place) -> Result<(), ReadFault>
