@@ -1,7 +1,5 @@
 -- The turn and the end of a run's loop over its calls.
-use Rattle.std.proofs.Common.{◌≡◌, ℕ, ◌+◌, ◌≤◌, List, [], ◌∷◌, ◌++◌, length, Some, None, Err, Option, Result, sym, refl, ap, ◌∙◌, subst, append_assoc, append-nil, arith}
-use Rattle.scale.specs.declared.refusal.Refusal.{Refusal}
-use Rattle.scale.specs.Causes.{answered, left}
+use Rattle.std.proofs.Common.{◌≡◌, ℕ, ◌+◌, ◌≤◌, List, [], ◌∷◌, ◌++◌, length, sym, refl, ap, ◌∙◌, subst, append_assoc, append-nil, arith}
 use Rattle.scale.specs.Meaning.{Meaning}
 use Rattle.engine.specs.Runs.{Ledgers, after, after_all, OutcomeOf, OutcomesOf}
 use Rattle.engine.specs.declared.calls.Call.{Call}
@@ -42,8 +40,3 @@ outcomes_end m start l all calls s done none ea k =
 pub ledgers_end : (start l : Ledgers) (all calls s : List Call) → length s ≡ 0 → all ≡ calls → after_all s l ≡ after_all all start → l ≡ after_all calls start
 ledgers_end start l all calls s none ea h =
     sym (ap (λ (x : List Call). after_all x l) (none_left s none)) ∙ h ∙ ap (λ (x : List Call). after_all x start) ea
-
--- a size that is refused refuses the run, which then leaves what there was
-pub refused_run : (why : Option Refusal) (e : Refusal) (made before end : Ledgers) → ◌≡◌ {A = Result (Unit {0}) Refusal} (Err e) (answered why tt) → end ≡ left why made before → (why ≡ Some e) × (end ≡ before)
-refused_run None e made before end answer changes = let z : ◌≡◌ {A = ℕ} 0 1 = cc in let none : ⊥ = omega arith in elim none [ ]
-refused_run (Some why) e made before end answer changes = (cc, changes)

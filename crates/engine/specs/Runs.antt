@@ -1,5 +1,5 @@
 -- What a run of calls on two books does: how each call changes the two ledgers, and what it answers.
-use Rattle.std.specs.Prelude.{◌≡◌, ℕ, List, [], ◌∷◌, Some, None, Ok, Err, vec_items, Option, Result, Vec}
+use Rattle.std.specs.Prelude.{◌≡◌, ℕ, List, [], ◌∷◌, Some, None, Ok, Err, vec_items, Option, Result, Vec, codes}
 use Rattle.std.specs.declared.alloc.Global.{Global}
 use Rattle.scale.specs.declared.refusal.Refusal.{Refusal}
 use Rattle.scale.specs.Causes.{answered, Answers}
@@ -22,6 +22,7 @@ use Rattle.engine.specs.declared.calls.Outcome.{Outcome}
 use Rattle.engine.specs.declared.calls.Outcome.TheVariants.{Entered, Struck, Reweighed, Checked, Sought, Compared}
 use Rattle.engine.specs.declared.calls.RunError.{RunError}
 use Rattle.engine.specs.declared.calls.RunError.TheVariants.{Refused, NoMemory}
+use Rattle.engine.specs.declared.calls.Size.{Size}
 
 -- the ledgers of the two books
 pub record Ledgers : Type 0 where
@@ -115,17 +116,22 @@ abbrev pub earlier : Option Refusal → Option Refusal → Option Refusal
 earlier None later = later
 earlier (Some e) later = Some e
 
--- why two books cannot be made of these sizes, each levels and statements: the first book's cause comes first
-abbrev pub sizes_refusal : ℕ × ℕ → ℕ × ℕ → Option Refusal
-sizes_refusal one two = earlier (make_refusal one.0 one.1) (make_refusal two.0 two.1)
+-- why two books cannot be made of these sizes: the first book's cause comes first
+abbrev pub sizes_refusal : Size → Size → Option Refusal
+sizes_refusal one two = earlier (make_refusal one.levels one.statements) (make_refusal two.levels two.statements)
 
 -- the ledgers of two books just made
-abbrev pub empties : ℕ × ℕ → ℕ × ℕ → Ledgers
-empties one two = ledgers (empty one.0 one.1) (empty two.0 two.1)
+abbrev pub empties : Size → Size → Ledgers
+empties one two = ledgers (empty one.levels one.statements) (empty two.levels two.statements)
 
 -- What a run of calls on two books of these sizes answers, and which ledgers it leaves: where it is refused, or has no
 -- memory, those that there were.
-abbrev pub Ran : Meaning → ℕ × ℕ → ℕ × ℕ → List Call → Ledgers → Ledgers → Result (Vec Outcome Global) RunError → Type 0
+abbrev pub Ran : Meaning → Size → Size → List Call → Ledgers → Ledgers → Result (Vec Outcome Global) RunError → Type 0
 Ran m one two calls before end (Ok outcomes) = (sizes_refusal one two ≡ None) × OutcomesOf m (empties one two) calls (vec_items outcomes) × (end ≡ after_all calls (empties one two))
 Ran m one two calls before end (Err (Refused e)) = (sizes_refusal one two ≡ Some e) × (end ≡ before)
 Ran m one two calls before end (Err NoMemory) = end ≡ before
+
+-- how a run that did nothing says why
+abbrev pub text_of : RunError → List ℕ
+text_of (Refused e) = codes "a book was refused"
+text_of NoMemory = codes "there is no memory for the outcomes"

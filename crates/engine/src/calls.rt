@@ -1,8 +1,22 @@
 // The calls of a run and what they answer.
+ghost use Rattle.std.specs.Prelude.{◌≡◌, Some};
+ghost use Rattle.engine.specs.Runs.{text_of};
+ghost use Rattle.engine.specs.declared.calls.RunError.TheVariants.{Refused, NoMemory};
+
 use super::answers::{Comparison, Which};
 use book::{Head, Literal, Rule};
 use scale::Refusal;
 use solve::Verdict;
+use std::alloc::AllocError;
+use std::error::Error;
+use std::fmt;
+
+// The levels and statements that a book is made of.
+#[derive(Clone, Copy, PartialEq, Eq, Debug)]
+pub struct Size {
+    pub levels: u8,
+    pub statements: u8,
+}
 
 // A call on one of two books, or on both. It owns its settings and places.
 #[derive(Drop)]
@@ -51,8 +65,37 @@ pub enum Outcome {
 }
 
 // Why a run did nothing: a book cannot have the size asked for, or there is no memory for the outcomes.
-#[derive(Clone, Copy)]
+#[derive(Clone, Copy, PartialEq, Eq, Debug)]
 pub enum RunError {
     Refused(Refusal),
     NoMemory,
 }
+
+impl From<Refusal> for RunError {
+    ghost from_gives = { λ refusal e. e ≡ Refused refusal };
+
+    fn from(refusal: Refusal) -> RunError {
+        RunError::Refused(refusal)
+    }
+}
+
+impl From<AllocError> for RunError {
+    ghost from_gives = { λ _ e. e ≡ NoMemory };
+
+    fn from(_: AllocError) -> RunError {
+        RunError::NoMemory
+    }
+}
+
+impl fmt::Display for RunError {
+    ghost output = { λ e. Some (text_of e) };
+
+    fn fmt<W: fmt::Write>(&self, f: &mut fmt::Formatter<W>) -> fmt::Result {
+        match self {
+            RunError::Refused(_) => write!(f, "a book was refused"),
+            RunError::NoMemory => write!(f, "there is no memory for the outcomes"),
+        }
+    }
+}
+
+impl Error for RunError {}

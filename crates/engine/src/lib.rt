@@ -10,6 +10,6 @@ mod running;
 mod steps;
 
 pub use answers::{Comparison, Which};
-pub use calls::{Call, Outcome, RunError};
+pub use calls::{Call, Outcome, RunError, Size};
 pub use comparing::compare;
 pub use running::run;

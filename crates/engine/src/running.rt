@@ -3,9 +3,9 @@ ghost use Rattle.std.specs.Prelude.{◌≡◌, ◌≤◌, [], vec_len, vec_capac
 ghost use Rattle.scale.specs.Causes.{answered, left};
 ghost use Rattle.engine.specs.Runs.{ledgers_of, after_all, OutcomesOf, sizes_refusal, empties, Ran};
 
-use super::calls::{Call, Outcome, RunError};
+use super::calls::{Call, Outcome, RunError, Size};
 use super::steps::step;
-use book::{Book, size_refusal};
+use book::{Book, allowed_size};
 use scale::{Refusal, Scale};
 use std::alloc::Global;
 
@@ -13,20 +13,16 @@ use std::alloc::Global;
 fn make_both(
     first: &mut Book,
     second: &mut Book,
-    first_size: (u8, u8),
-    second_size: (u8, u8),
+    first_size: Size,
+    second_size: Size,
 ) -> Result<(), Refusal>
     ensures answer { result ≡ answered (sizes_refusal first_size second_size) tt }
     ensures changes { ledgers_of first.new second.new ≡ left (sizes_refusal first_size second_size) (empties first_size second_size) (ledgers_of first.old second.old) }
 {
-    if let Some(refusal) = size_refusal(first_size.0, first_size.1) {
-        return Err(refusal);
-    }
-    if let Some(refusal) = size_refusal(second_size.0, second_size.1) {
-        return Err(refusal);
-    }
-    first.make(first_size.0, first_size.1)?;
-    second.make(second_size.0, second_size.1)
+    allowed_size(first_size.levels, first_size.statements)?;
+    allowed_size(second_size.levels, second_size.statements)?;
+    first.make(first_size.levels, first_size.statements)?;
+    second.make(second_size.levels, second_size.statements)
 }
 
 // Does the calls in order. There is room for their outcomes.
@@ -55,17 +51,13 @@ pub fn run<S: Scale>(
     scale: &S,
     first: &mut Book,
     second: &mut Book,
-    first_size: (u8, u8),
-    second_size: (u8, u8),
+    first_size: Size,
+    second_size: Size,
     calls: Vec<Call>,
 ) -> Result<Vec<Outcome>, RunError>
     ensures { Ran (S.meaning scale.now) first_size second_size calls.items (ledgers_of first.old second.old) (ledgers_of first.new second.new) result }
 {
-    let Ok(outcomes) = Vec::with_capacity(heap, calls.len()) else {
-        return Err(RunError::NoMemory);
-    };
-    match make_both(first, second, first_size, second_size) {
-        Ok(()) => Ok(do_all(scale, first, second, calls, outcomes)),
-        Err(refusal) => Err(RunError::Refused(refusal)),
-    }
+    let outcomes = Vec::with_capacity(heap, calls.len())?;
+    make_both(first, second, first_size, second_size)?;
+    Ok(do_all(scale, first, second, calls, outcomes))
 }
