@@ -50,14 +50,27 @@ abbrev pub with_named : Which → Ledgers → Ledger → Ledgers
 with_named First l changed = ledgers changed l.second
 with_named Second l changed = ledgers l.first changed
 
--- how a call changes the ledgers: check, seek and compare leave them
+-- the book that a call names
+abbrev pub book_of : Call → Which
+book_of (Enter book head weight body) = book
+book_of (Strike book rule) = book
+book_of (Reweigh book rule weight) = book
+book_of (Check book setting) = book
+book_of (Seek book start place) = book
+book_of (Compare book addendum setting) = book
+
+-- how a call changes the ledger of the book that it names: check, seek and compare leave it
+abbrev pub changed : Call → Ledger → Ledger
+changed (Enter book head weight body) l = entered l (clause head weight (vec_items body))
+changed (Strike book rule) l = struck l rule
+changed (Reweigh book rule weight) l = reweighed l rule weight
+changed (Check book setting) l = l
+changed (Seek book start place) l = l
+changed (Compare book addendum setting) l = l
+
+-- how a call changes the ledgers: that of the other book stays
 abbrev pub after : Call → Ledgers → Ledgers
-after (Enter book head weight body) l = with_named book l (entered (named book l) (clause head weight (vec_items body)))
-after (Strike book rule) l = with_named book l (struck (named book l) rule)
-after (Reweigh book rule weight) l = with_named book l (reweighed (named book l) rule weight)
-after (Check book setting) l = l
-after (Seek book start place) l = l
-after (Compare book addendum setting) l = l
+after c l = with_named (book_of c) l (changed c (named (book_of c) l))
 
 -- the same of a list of calls, one after another
 abbrev pub after_all : List Call → Ledgers → Ledgers
@@ -95,14 +108,18 @@ pub record CompareOutcome (m : Meaning) (one two : Ledger) (before : comparisons
   pub answers : Answers (comparisons.compare_refusal m one two before.addendum before.setting) answer (comparisons.Compared m one.statements one.rules two.rules before (comparisons.places (vec_items addendum) (vec_items setting)))
   pub refused : Unchanged answer before (comparisons.places (vec_items addendum) (vec_items setting))
 
+-- the outcome of a call on a book with the ledger `one`, where the other book has the ledger `two`
+abbrev pub OutcomeOn : Meaning → Ledger → Ledger → Call → Outcome → Type 0
+OutcomeOn m one two (Enter book head weight body) o = o ≡ Entered (answered (enter_refusal one (clause head weight (vec_items body))) tt)
+OutcomeOn m one two (Strike book rule) o = o ≡ Struck (answered (strike_refusal one rule) tt)
+OutcomeOn m one two (Reweigh book rule weight) o = o ≡ Reweighed (answered (reweigh_refusal one rule weight) tt)
+OutcomeOn m one two (Check book setting) o = CheckOutcome m one (vec_items setting) o
+OutcomeOn m one two (Seek book start place) o = SeekOutcome m one start (vec_items place) o
+OutcomeOn m one two (Compare book addendum setting) o = CompareOutcome m one two (comparisons.places (vec_items addendum) (vec_items setting)) o
+
 -- the outcome of a call on books with these ledgers
 abbrev pub OutcomeOf : Meaning → Ledgers → Call → Outcome → Type 0
-OutcomeOf m l (Enter book head weight body) o = o ≡ Entered (answered (enter_refusal (named book l) (clause head weight (vec_items body))) tt)
-OutcomeOf m l (Strike book rule) o = o ≡ Struck (answered (strike_refusal (named book l) rule) tt)
-OutcomeOf m l (Reweigh book rule weight) o = o ≡ Reweighed (answered (reweigh_refusal (named book l) rule weight) tt)
-OutcomeOf m l (Check book setting) o = CheckOutcome m (named book l) (vec_items setting) o
-OutcomeOf m l (Seek book start place) o = SeekOutcome m (named book l) start (vec_items place) o
-OutcomeOf m l (Compare book addendum setting) o = CompareOutcome m (named book l) (unnamed book l) (comparisons.places (vec_items addendum) (vec_items setting)) o
+OutcomeOf m l c o = OutcomeOn m (named (book_of c) l) (unnamed (book_of c) l) c o
 
 -- each call has its outcome, on the ledgers as the calls before it left them
 abbrev pub OutcomesOf : Meaning → Ledgers → List Call → List Outcome → Type 0

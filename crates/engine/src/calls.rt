@@ -1,6 +1,6 @@
 // The calls of a run and what they answer.
 ghost use Rattle.std.specs.Prelude.{◌≡◌, Some};
-ghost use Rattle.engine.specs.Runs.{text_of};
+ghost use Rattle.engine.specs.Runs.{book_of, text_of};
 ghost use Rattle.engine.specs.declared.calls.RunError.TheVariants.{Refused, NoMemory};
 
 use super::answers::{Comparison, Which};
@@ -51,6 +51,22 @@ pub enum Call {
         addendum: Vec<Rule>,
         setting: Vec<u8>,
     },
+}
+
+impl Call {
+    // The book that the call names.
+    pub(crate) fn book(&self) -> Which
+        ensures { result ≡ book_of self.now }
+    {
+        match self {
+            Call::Enter { book, .. }
+            | Call::Strike { book, .. }
+            | Call::Reweigh { book, .. }
+            | Call::Check { book, .. }
+            | Call::Seek { book, .. }
+            | Call::Compare { first: book, .. } => *book,
+        }
+    }
 }
 
 // What a call answered, with its settings and places given back.
