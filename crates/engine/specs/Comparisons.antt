@@ -1,5 +1,5 @@
 -- What compare answers: strong equivalence, or what tells the two books apart.
-use Rattle.std.specs.Prelude.{◌≡◌, ℕ, ◌*◌, ◌^◌, ◌≤◌, Bool, true, false, not, ◌↔◌, List, [], ◌∷◌, map, length, take, drop, Option, ◌==◌, nat_lt}
+use Rattle.std.specs.Prelude.{◌≡◌, ℕ, ◌*◌, ◌^◌, ◌≤◌, Bool, true, false, not, ◌↔◌, List, [], ◌∷◌, map, length, take, drop, Option, ◌==◌, nat_lt, codes}
 use Rattle.scale.specs.declared.refusal.Refusal.{Refusal}
 use Rattle.scale.specs.declared.refusal.Refusal.TheVariants.{LevelsDiffer, StatementsDiffer, PlaceLength, TooManySettings}
 use Rattle.scale.specs.Causes.{cause, first_met}
@@ -16,6 +16,11 @@ use Rattle.engine.specs.declared.answers.Which.TheVariants.{First, Second}
 abbrev pub other_of : Which → Which
 other_of First = Second
 other_of Second = First
+
+-- how a book is named to users
+abbrev pub word_of : Which → List ℕ
+word_of First = codes "first"
+word_of Second = codes "second"
 
 -- the causes that compare tests, with the rows of the addendum's place and of the setting's
 abbrev pub compare_refusal : Meaning → Ledger → Ledger → List Rule → List ℕ → Option Refusal

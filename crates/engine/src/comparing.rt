@@ -4,10 +4,10 @@ ghost use Rattle.scale.specs.Causes.{Answers};
 ghost use Rattle.book.specs.Rows.{clause_of};
 ghost use Rattle.book.specs.View.{ledger_of};
 ghost use Rattle.solve.specs.Ready.{Rules};
-ghost use Rattle.engine.specs.Comparisons.{compare_refusal, other_of, places, Told, Compared};
+ghost use Rattle.engine.specs.Comparisons.{compare_refusal, places, Told, Compared};
 
 use super::addenda::{write_addendum, write_facts};
-use super::answers::{Comparison, Which};
+use super::answers::Comparison;
 use super::pairs::{Difference, find_difference};
 use book::{Book, Rule};
 use scale::{Refusal, Scale};
@@ -18,16 +18,6 @@ const MOST_SETTINGS: u32 = 4_096;
 
 // The most statements that a book may have, and so the longest row.
 const MOST_STATEMENTS: usize = 16;
-
-// The other of two books.
-fn other(book: Which) -> Which
-    ensures { result ≡ other_of book }
-{
-    match book {
-        Which::First => Which::Second,
-        Which::Second => Which::First,
-    }
-}
 
 // Compares two lists of lawful rules; `count` is the number of all settings.
 fn tell<S: Scale>(
@@ -63,7 +53,7 @@ fn tell<S: Scale>(
             let rules = write_addendum(lower, upper, addendum);
             setting.copy_from_slice(upper);
             Comparison::Unequal {
-                book: other(book),
+                book: book.other(),
                 rules,
             }
         }
