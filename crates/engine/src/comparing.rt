@@ -17,7 +17,7 @@ use solve::setting_count;
 const MOST_SETTINGS: u32 = 4_096;
 
 // The most statements that a book may have, and so the longest row.
-const MOST_STATEMENTS: usize = 16;
+pub(crate) const MOST_STATEMENTS: usize = 16;
 
 // Compares two lists of lawful rules; `count` is the number of all settings.
 fn tell<S: Scale>(
