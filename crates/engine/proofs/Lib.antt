@@ -2,7 +2,6 @@ pub mod Odometer
 pub mod Passing
 pub mod Sequences
 pub mod Stepping
-pub mod Sweeps
 pub mod Telling
 pub mod Writing
 pub mod Zeros

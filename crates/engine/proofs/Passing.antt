@@ -9,42 +9,48 @@ use Rattle.theory.specs.Semantics.{Setting}
 use Rattle.theory.proofs.Positions.{position_apart, position_fits}
 use Rattle.engine.specs.Differences.{Advanced, Agree}
 
--- every setting before position p has the property
-abbrev pub Passed : Meaning → ℕ → ℕ → (List ℕ → Type 0) → Type 0
-Passed m n p T = (row : List ℕ) → Setting m n row → position m.levels row < p → T row
+-- Every setting before position k has the property T, and the row stands at position k, or, past the last one, at the
+-- first again.
+pub record Sweep (m : Meaning) (n k : ℕ) (T : List ℕ → Type 0) (row : List ℕ) : Type 0 where
+  pub setting : Setting m n row
+  pub inside : k < m.levels ^ n → position m.levels row ≡ k
+  pub outside : m.levels ^ n ≤ k → position m.levels row ≡ 0
+  pub passed : (before : List ℕ) → Setting m n before → position m.levels before < k → T before
 
--- the row stands at position k, or, past the last one, at the first again
-pub record At (m : Meaning) (count k : ℕ) (row : List ℕ) : Type 0 where
-  pub inside : k < count → position m.levels row ≡ k
-  pub outside : count ≤ k → position m.levels row ≡ 0
+module _ (m : Meaning) (n : ℕ) (T : List ℕ → Type 0) (row : List ℕ) where
+  pub sweep_starts : Setting m n row → position m.levels row ≡ 0 → Sweep m n 0 T row
+  sweep_starts setting first = record {
+    setting = setting;
+    inside = λ h. first;
+    outside = λ h. first;
+    passed = λ before s h. absurd (omega (arith, h));
+  }
 
-module _ (m : Meaning) (n k : ℕ) (T : List ℕ → Type 0) where
-  pub passed_none : Passed m n 0 T
-  passed_none row setting h = absurd (omega (arith, h))
+  module _ (k : ℕ) (sweep : Sweep m n k T row) where
+    pub sweep_goes_on : (levels : ℕ) (next : List ℕ) → levels ≡ m.levels → k < m.levels ^ n → T row → length next ≡ length row → Advanced levels row next → Sweep m n (k + 1) T next
+    sweep_goes_on levels next is h holds same advanced =
+        let step = subst (λ (l : ℕ). Advanced l row next) is advanced in
+        let now-at = sweep.inside h in
+        let whole : m.levels ^ length row ≡ m.levels ^ n = ap (λ (j : ℕ). m.levels ^ j) sweep.setting.long in
+        record {
+          setting = record { long = same ∙ sweep.setting.long; degrees = step.degrees };
+          inside = λ l. step.next (omega (arith, now-at, whole)) ∙ ap (λ (j : ℕ). j + 1) now-at;
+          outside = λ l. step.wrap (omega (arith, now-at, whole));
+          passed = λ other there until.
+              ⊎_elim (sweep.passed other there)
+              (λ not-before.
+              let level : position m.levels other ≡ position m.levels row = omega (arith, now-at) in
+              subst T (sym (position_apart m.levels other row (there.long ∙ sym sweep.setting.long) there.degrees sweep.setting.degrees level)) holds)
+              (cases_lt (position m.levels other) k);
+        }
 
-  pub passed_more : (row : List ℕ) → Setting m n row → position m.levels row ≡ k → T row → Passed m n k T → Passed m n (k + 1) T
-  passed_more row setting here holds before other there until =
-      ⊎_elim (before other there)
-      (λ not-Earlier.
-      let level : position m.levels other ≡ position m.levels row = omega (arith, here) in
-      subst T (sym (position_apart m.levels other row (there.long ∙ sym setting.long) there.degrees setting.degrees level)) holds)
-      (cases_lt (position m.levels other) k)
-
-  pub passed_all : m.levels ^ n ≤ k → Passed m n k T → (row : List ℕ) → Setting m n row → T row
-  passed_all all passed row setting =
-      let fits = subst (λ (j : ℕ). position m.levels row < m.levels ^ j) setting.long (position_fits m.levels row setting.degrees) in
-      passed row setting (omega arith)
-
-pub at_start : (m : Meaning) (count : ℕ) (row : List ℕ) → position m.levels row ≡ 0 → At m count 0 row
-at_start m count row here = record { inside = λ h. here; outside = λ h. here }
-
-pub at_next : (m : Meaning) (count k : ℕ) (row next : List ℕ) → count ≡ m.levels ^ length row → k < count → At m count k row → Advanced m.levels row next → At m count (k + 1) next
-at_next m count k row next is h here step =
-    let now-at = here.inside h in
-    record {
-      inside = λ l. step.next (omega (arith, now-at, is)) ∙ ap (λ (j : ℕ). j + 1) now-at;
-      outside = λ l. step.wrap (omega (arith, now-at, is));
-    }
+    pub sweep_ends : m.levels ^ n ≤ k → (position m.levels row ≡ 0) × ((other : List ℕ) → Setting m n other → T other)
+    sweep_ends all = (
+      sweep.outside all,
+      λ other there.
+          let fits = subst (λ (j : ℕ). position m.levels other < m.levels ^ j) there.long (position_fits m.levels other there.degrees) in
+          sweep.passed other there (omega arith),
+    )
 
 -- where both books agree at every upper row, they have the same pairs
 pub same_pairs_from : (m : Meaning) (n : ℕ) (first second : List Clause) → ((upper : List ℕ) → Setting m n upper → Agree m n first second upper) → SamePairs m n first second

@@ -1,5 +1,5 @@
 -- From a difference that the search found to what compare answers.
-use Rattle.std.proofs.Common.{◌≡◌, ℕ, ◌*◌, ◌≤◌, true, ◌↔◌, List, map, length, take, drop, Some, sym, refl, subst₂, arith}
+use Rattle.std.proofs.Common.{◌≡◌, ℕ, ◌*◌, ◌≤◌, true, ◌↔◌, List, map, length, take, drop, Some, sym, refl, subst, subst₂, arith}
 use Rattle.std.proofs.lemmas.Bool.{false≢true}
 use Rattle.scale.specs.Meaning.{Meaning, Laws}
 use Rattle.book.specs.Ledger.{Clause, Lawful}
@@ -8,6 +8,9 @@ use Rattle.theory.specs.Equivalence.{StronglyEquivalent, TellsApart, facts, adde
 use Rattle.theory.specs.Semantics.{AllByRecursion}
 use Rattle.theory.proofs.Apart.{facts_tell_apart, addendum_tells_apart, same_pairs}
 use Rattle.theory.proofs.Pairs.{strongly_equivalent}
+use Rattle.solve.specs.Programs.{meaning_of, clauses_of, statements_of}
+use Rattle.solve.specs.declared.program.Program.{Program}
+use Rattle.solve.proofs.Programs.{clauses_lawful}
 use Rattle.engine.specs.Comparisons.{Places, Apart, Told, Compared, is_equal, other_of}
 use Rattle.engine.specs.Differences.{Differs}
 use Rattle.engine.specs.declared.answers.Comparison.{Comparison}
@@ -15,6 +18,15 @@ use Rattle.engine.specs.declared.answers.Comparison.TheVariants.{Equal, Unequal}
 use Rattle.engine.specs.declared.answers.Which.{Which}
 use Rattle.engine.specs.declared.answers.Which.TheVariants.{First, Second}
 use Rattle.engine.specs.declared.pairs.Difference.TheVariants.{ModelOf, PairOf}
+
+-- the rules of a program are lawful
+pub program_lawful : {S : Type 0} {members : _} (m : Meaning) (n : ℕ) (p : Program S members) → meaning_of p ≡ m → statements_of p ≡ n → AllByRecursion (Lawful m.levels n) (clauses_of p)
+program_lawful m n p scale size =
+    subst₂ (λ (k : Meaning) (j : ℕ). AllByRecursion (Lawful k.levels j) (clauses_of p)) scale size (clauses_lawful _ _ p.rules.now p.lawful)
+
+-- the scale of a program has a degree
+pub program_some : {S : Type 0} {members : _} (m : Meaning) (p : Program S members) → meaning_of p ≡ m → 1 ≤ m.levels
+program_some m p scale = let some : 1 ≤ (meaning_of p).levels = omega (arith, p.some) in subst (λ (k : Meaning). 1 ≤ k.levels) scale some
 
 -- what was written: the rules in the first rows, the setting, and the other rows as they were
 pub record Written (before after : Places) (rules : List Clause) (row : List ℕ) (count : ℕ) : Type 0 where

@@ -6,15 +6,11 @@ use Rattle.theory.specs.AnswerSet.{Under}
 use Rattle.theory.specs.Equivalence.{Pair, SamePairs}
 use Rattle.theory.specs.Position.{position}
 use Rattle.theory.specs.Semantics.{AllByRecursion, at, Setting, StatementHolds}
-use Rattle.book.specs.declared.rows.Rule.{Rule}
-use Rattle.solve.specs.Ready.{Degrees, Rules}
 use Rattle.solve.specs.Verdicts.{HoldsAt}
 use Rattle.engine.specs.declared.answers.Which.{Which}
 use Rattle.engine.specs.declared.answers.Which.TheVariants.{First, Second}
 use Rattle.engine.specs.declared.pairs.Difference.{Difference}
 use Rattle.engine.specs.declared.pairs.Difference.TheVariants.{ModelOf, PairOf}
-use Rattle.engine.specs.declared.pairs.Models.{Models}
-use Rattle.engine.specs.declared.pairs.Models.TheVariants.{Both, Neither, Only}
 
 -- the row of the next position; the last position is followed by the first
 pub record Advanced (levels : ℕ) (before after : List ℕ) : Type 0 where
@@ -22,16 +18,11 @@ pub record Advanced (levels : ℕ) (before after : List ℕ) : Type 0 where
   pub next : position levels before + 1 < levels ^ length before → position levels after ≡ position levels before + 1
   pub wrap : position levels before + 1 ≡ levels ^ length before → position levels after ≡ 0
 
--- What the search asks of its rows and rules: degrees of the scale, lawful rules, rows of one length, the lower one at
--- position 0, and the number of all settings.
-pub record Searchable (m : Meaning) (first second : List Rule) (count : ℕ) (lower upper : List ℕ) : Type 0 where
-  pub low : Degrees m lower
-  pub high : Degrees m upper
-  pub first_lawful : Rules m (length upper) first
-  pub second_lawful : Rules m (length upper) second
-  pub long : length lower ≡ length upper
+-- What the search asks of its rows: settings, the lower one at position 0.
+pub record Searchable (m : Meaning) (n : ℕ) (lower upper : List ℕ) : Type 0 where
+  pub low : Setting m n lower
+  pub high : Setting m n upper
   pub lowest : position m.levels lower ≡ 0
-  pub whole : count ≡ m.levels ^ length upper
 
 -- every rule holds at the row
 abbrev pub Holds : Meaning → List ℕ → List Clause → Type 0
@@ -44,12 +35,6 @@ Kept m lower upper cs = AllByRecursion (StatementHolds m (at lower) (at upper)) 
 -- one book is satisfied at the row and the other is not
 abbrev pub ModelsOne : Meaning → List ℕ → List Clause → List Clause → Type 0
 ModelsOne m row one other = Holds m row one × (Holds m row other → ⊥)
-
-abbrev pub Modelled : Meaning → List ℕ → List Clause → List Clause → Models → Type 0
-Modelled m row first second Both = Holds m row first × Holds m row second
-Modelled m row first second Neither = (Holds m row first → ⊥) × (Holds m row second → ⊥)
-Modelled m row first second (Only First) = ModelsOne m row first second
-Modelled m row first second (Only Second) = ModelsOne m row second first
 
 -- a lower row below the upper one keeps the rules of one book and not those of the other
 abbrev pub KeepsOne : Meaning → List ℕ → List ℕ → List Clause → List Clause → Type 0
