@@ -19,27 +19,27 @@ pub(crate) enum Difference {
     PairOf(Which),
 }
 
-// Is one setting below another, statement by statement?
+// Is one setting below another, statement by statement? A loop, since the chain of both rows' iterators (`zip`, `all`)
+// made compare a tenth slower: it is asked of each pair of settings.
 fn is_under<S: Scale>(scale: &S, lower: &[u8], upper: &[u8]) -> bool
     requires { (Degrees (S.meaning scale.now) lower.now) × ((Degrees (S.meaning scale.now) upper.now) × (length lower.now ≡ length upper.now)) }
     ensures { MatchBool result (Under (S.meaning scale.now) lower.now upper.now) (Under (S.meaning scale.now) lower.now upper.now → ⊥) }
 {
-    for statement in 0..lower.len() {
-        if !scale.below(lower[statement], upper[statement]) {
+    for (statement, low) in lower.iter().enumerate() {
+        if !scale.below(*low, upper[statement]) {
             return false;
         }
     }
     true
 }
 
-// Goes on to the setting of the next position; from the last one back to the first.
+// Goes on to the setting of the next position; from the last one back to the first. By index, since a proof knows nothing
+// of what is written through the reversed `iter_mut`.
 fn advance(row: &mut [u8], levels: u8)
     requires { (1 ≤ levels) × (((s : ℕ) → at row.old s < levels)) }
     ensures { Advanced levels row.old row.new }
 {
-    let mut statement = row.len();
-    while statement > 0 {
-        statement -= 1;
+    for statement in (0..row.len()).rev() {
         if row[statement] + 1 < levels {
             row[statement] += 1;
             return;

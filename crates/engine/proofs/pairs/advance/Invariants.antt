@@ -3,6 +3,3 @@ use Rattle.engine.proofs.pairs.advance.Given as goal
 
 abbrev pub invariant-loop-statement : goal.invariant-loop-statement
 invariant-loop-statement l = Carrying l.levels l.initial.row l.statement l.row
-
-abbrev pub decreases-loop-statement : goal.decreases-loop-statement
-decreases-loop-statement l = l.statement
