@@ -28,8 +28,8 @@ impl<'a, S: Scale> Search<'a, S> {
     {
         let mut lower_row = [0; MOST_STATEMENTS];
         let mut upper_row = [0; MOST_STATEMENTS];
-        let lower = &mut lower_row[0..setting.len()];
-        let upper = &mut upper_row[0..setting.len()];
+        let lower = &mut lower_row[..setting.len()];
+        let upper = &mut upper_row[..setting.len()];
         match self.find_difference(lower, upper) {
             None => Comparison::Equal,
             Some(Difference::ModelOf(book)) => {
@@ -74,9 +74,9 @@ pub fn compare<S: Scale>(
     if setting.len() != length || addendum.len() < 2 * length {
         return Err(Refusal::PlaceLength);
     }
-    let Some(count) = setting_count(first.levels(), statements, MOST_SETTINGS) else {
-        return Err(Refusal::TooManySettings);
-    };
+    let count = setting_count(first.levels(), statements, MOST_SETTINGS).ok_or(
+        Refusal::TooManySettings,
+    )?;
     let search = Search {
         scale,
         first: first_program,
