@@ -1,3 +1,4 @@
+pub mod Finding
 pub mod Odometer
 pub mod Passing
 pub mod Sequences

@@ -45,13 +45,13 @@ module _ {m : Meaning} {n : ℕ} where
   }
 
 module _ {m : Meaning} (laws : Laws m) (n : ℕ) (first second : List Clause) (one : AllByRecursion (Lawful m.levels n) first) (two : AllByRecursion (Lawful m.levels n) second) where
-  pub told_model : (book : Which) (lower upper : List ℕ) (before after : Places) → Differs m n first second lower upper (Some (ModelOf book)) → Written before after (facts n upper) upper n → Told m n first second before after (Unequal book n)
-  told_model First lower upper before after found w = apart (facts_tell_apart laws n first second one two found.0 found.1.0 found.1.1) (omega arith) w
-  told_model Second lower upper before after found w = apart (facts_tell_apart laws n second first two one found.0 found.1.0 found.1.1) (omega arith) w
+  pub told_model : (book : Which) (upper : List ℕ) (before after : Places) → Differs m n first second upper (Some (ModelOf book)) → Written before after (facts n upper) upper n → Told m n first second before after (Unequal book n)
+  told_model First upper before after found w = apart (facts_tell_apart laws n first second one two found.0 found.1.0 found.1.1) (omega arith) w
+  told_model Second upper before after found w = apart (facts_tell_apart laws n second first two one found.0 found.1.0 found.1.1) (omega arith) w
 
-  pub told_pair : (book : Which) (lower upper : List ℕ) (before after : Places) (count : ℕ) → Differs m n first second lower upper (Some (PairOf book)) → count ≤ 2 * n → Written before after (addendum n lower upper) upper count → Told m n first second before after (Unequal (other_of book) count)
-  told_pair First lower upper before after count found few w = apart (addendum_tells_apart laws n first second one two found.0 found.1 found.2) few w
-  told_pair Second lower upper before after count found few w = apart (addendum_tells_apart laws n second first two one found.0 found.1 found.2) few w
+  pub told_pair : (book : Which) (row upper : List ℕ) (before after : Places) (count : ℕ) → Differs m n first second upper (Some (PairOf book row)) → count ≤ 2 * n → Written before after (addendum n (take n row) upper) upper count → Told m n first second before after (Unequal (other_of book) count)
+  told_pair First row upper before after count found few w = apart (addendum_tells_apart laws n first second one two found.1.0 found.1.1 found.1.2) few w
+  told_pair Second row upper before after count found few w = apart (addendum_tells_apart laws n second first two one found.1.0 found.1.1 found.1.2) few w
 
   -- an answer is "equal" exactly where the books are strongly equivalent
   exact : (before after : Places) (answer : Comparison) → Told m n first second before after answer → (is_equal answer ≡ true) ↔ StronglyEquivalent m n first second

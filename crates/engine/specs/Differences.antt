@@ -1,11 +1,12 @@
 -- What the search for a differing pair has found.
-use Rattle.std.specs.Prelude.{◌≡◌, ℕ, ◌+◌, ◌^◌, ◌<◌, ◌↔◌, List, length, Some, None, Option}
+use Rattle.std.specs.Prelude.{◌≡◌, ℕ, ◌+◌, ◌^◌, ◌<◌, ◌↔◌, List, length, take, Some, None, Option}
 use Rattle.scale.specs.Meaning.{Meaning}
 use Rattle.book.specs.Ledger.{Clause}
 use Rattle.theory.specs.AnswerSet.{Under}
 use Rattle.theory.specs.Equivalence.{Pair, SamePairs}
 use Rattle.theory.specs.Position.{position}
 use Rattle.theory.specs.Semantics.{AllByRecursion, at, Setting, StatementHolds}
+use Rattle.solve.specs.Ready.{AllBelow}
 use Rattle.solve.specs.Verdicts.{HoldsAt}
 use Rattle.engine.specs.declared.answers.Which.{Which}
 use Rattle.engine.specs.declared.answers.Which.TheVariants.{First, Second}
@@ -18,11 +19,10 @@ pub record Advanced (levels : ℕ) (before after : List ℕ) : Type 0 where
   pub next : position levels before + 1 < levels ^ length before → position levels after ≡ position levels before + 1
   pub wrap : position levels before + 1 ≡ levels ^ length before → position levels after ≡ 0
 
--- What the search asks of its rows: settings, the lower one at position 0.
-pub record Searchable (m : Meaning) (n : ℕ) (lower upper : List ℕ) : Type 0 where
-  pub low : Setting m n lower
-  pub high : Setting m n upper
-  pub lowest : position m.levels lower ≡ 0
+-- what a test answers first at rows of n degrees below `levels`, and the row at which it does; or that it answers nothing at all of them
+abbrev pub FirstAnswer : {T : Type 0} → ℕ → ℕ → (List ℕ → Option T → Type 0) → List ℕ → Option T → Type 0
+FirstAnswer levels n answers row None = (other : List ℕ) → length other ≡ n → AllBelow levels other → answers other None
+FirstAnswer levels n answers row (Some x) = AllBelow levels row × answers row (Some x)
 
 -- every rule holds at the row
 abbrev pub Holds : Meaning → List ℕ → List Clause → Type 0
@@ -50,32 +50,30 @@ KeptBy m lower upper first second (Some First) = KeepsOne m lower upper first se
 KeptBy m lower upper first second (Some Second) = KeepsOne m lower upper second first
 
 -- what the search of the lower rows under one upper row has found
-abbrev pub LowerFound : Meaning → ℕ → List ℕ → List ℕ → List Clause → List Clause → Option Which → Type 0
-LowerFound m n upper lower first second None = (position m.levels lower ≡ 0) × ((row : List ℕ) → Setting m n row → AgreeBelow m first second upper row)
-LowerFound m n upper lower first second (Some First) = KeepsOne m lower upper first second
-LowerFound m n upper lower first second (Some Second) = KeepsOne m lower upper second first
+abbrev pub LowerFound : Meaning → ℕ → List ℕ → List Clause → List Clause → Option Difference → Type 0
+LowerFound m n upper first second None = (row : List ℕ) → Setting m n row → AgreeBelow m first second upper row
+LowerFound m n upper first second (Some (ModelOf book)) = ⊥
+LowerFound m n upper first second (Some (PairOf First row)) = Setting m n (take n row) × KeepsOne m (take n row) upper first second
+LowerFound m n upper first second (Some (PairOf Second row)) = Setting m n (take n row) × KeepsOne m (take n row) upper second first
 
 -- Agreement at an upper row: both books are satisfied there or neither, and then both keep the same lower rows.
 abbrev pub Agree : Meaning → ℕ → List Clause → List Clause → List ℕ → Type 0
 Agree m n first second upper =
     (Holds m upper first ↔ Holds m upper second) × (Holds m upper first → (lower : List ℕ) → Setting m n lower → AgreeBelow m first second upper lower)
 
--- what the search at one upper row has found
-abbrev pub UpperFound : Meaning → ℕ → List ℕ → List ℕ → List Clause → List Clause → Option Difference → Type 0
-UpperFound m n upper lower first second None = (position m.levels lower ≡ 0) × Agree m n first second upper
-UpperFound m n upper lower first second (Some (ModelOf First)) = ModelsOne m upper first second
-UpperFound m n upper lower first second (Some (ModelOf Second)) = ModelsOne m upper second first
-UpperFound m n upper lower first second (Some (PairOf First)) = KeepsOne m lower upper first second × Holds m upper first × Holds m upper second
-UpperFound m n upper lower first second (Some (PairOf Second)) = KeepsOne m lower upper second first × Holds m upper second × Holds m upper first
-
 -- a pair of one book whose upper row satisfies the other too, and that is no pair of the other
 abbrev pub PairsOne : Meaning → ℕ → List ℕ → List ℕ → List Clause → List Clause → Type 0
 PairsOne m n lower upper one other = Pair m n one lower upper × Holds m upper other × (Kept m lower upper other → ⊥)
 
+-- what the search at one upper row has found
+abbrev pub UpperFound : Meaning → ℕ → List ℕ → List Clause → List Clause → Option Difference → Type 0
+UpperFound m n upper first second None = Agree m n first second upper
+UpperFound m n upper first second (Some (ModelOf First)) = ModelsOne m upper first second
+UpperFound m n upper first second (Some (ModelOf Second)) = ModelsOne m upper second first
+UpperFound m n upper first second (Some (PairOf First row)) = PairsOne m n (take n row) upper first second
+UpperFound m n upper first second (Some (PairOf Second row)) = PairsOne m n (take n row) upper second first
+
 -- what the whole search has found
-abbrev pub Differs : Meaning → ℕ → List Clause → List Clause → List ℕ → List ℕ → Option Difference → Type 0
-Differs m n first second lower upper None = SamePairs m n first second
-Differs m n first second lower upper (Some (ModelOf First)) = Setting m n upper × ModelsOne m upper first second
-Differs m n first second lower upper (Some (ModelOf Second)) = Setting m n upper × ModelsOne m upper second first
-Differs m n first second lower upper (Some (PairOf First)) = PairsOne m n lower upper first second
-Differs m n first second lower upper (Some (PairOf Second)) = PairsOne m n lower upper second first
+abbrev pub Differs : Meaning → ℕ → List Clause → List Clause → List ℕ → Option Difference → Type 0
+Differs m n first second upper None = SamePairs m n first second
+Differs m n first second upper (Some difference) = Setting m n upper × UpperFound m n upper first second (Some difference)

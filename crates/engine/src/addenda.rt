@@ -3,7 +3,7 @@ ghost use Rattle.std.specs.Prelude.{◌≡◌, ◌*◌, ◌≤◌, map, length, 
 ghost use Rattle.book.specs.Rows.{clause_of};
 ghost use Rattle.theory.specs.Equivalence.{facts, differing as differing_statements, cycle, addendum as addendum_of};
 
-use super::comparing::MOST_STATEMENTS;
+use super::settings::MOST_STATEMENTS;
 use arrayvec::ArrayVec;
 use book::{Body, Head, Literal, Rule};
 use solve::degree;

@@ -7,6 +7,7 @@ ghost use Rattle.engine.specs.Comparisons.{compare_refusal, places, Told, Compar
 use super::addenda::{write_addendum, write_facts};
 use super::answers::Comparison;
 use super::pairs::{Difference, Search};
+use super::settings::MOST_STATEMENTS;
 use book::{Book, Rule};
 use scale::{Refusal, Scale};
 use solve::{Program, setting_count};
@@ -14,23 +15,18 @@ use solve::{Program, setting_count};
 // The most settings that compare goes through.
 const MOST_SETTINGS: u32 = 4_096;
 
-// The most statements that a book may have, and so the longest row.
-pub(crate) const MOST_STATEMENTS: usize = 16;
-
 impl<'a, S: Scale> Search<'a, S> {
-    ghost use Rattle.solve.specs.Programs.{clauses_of, statements_of};
+    ghost use Rattle.solve.specs.Programs.{clauses_of};
 
     // Compares the two books.
     fn tell(&self, addendum: &mut [Rule], setting: &mut [u8]) -> Comparison
-        requires long { length setting.old ≡ statements_of self.now.first }
+        requires long { length setting.old ≡ self.now.statements }
         requires room { 2 * length setting.old ≤ length addendum.old }
-        ensures { Told (S.meaning self.now.scale.now) (statements_of self.now.first) (clauses_of self.now.first) (clauses_of self.now.second) (places addendum.old setting.old) (places addendum.new setting.new) result }
+        ensures { Told (S.meaning self.now.scale.now) self.now.statements (clauses_of self.now.first) (clauses_of self.now.second) (places addendum.old setting.old) (places addendum.new setting.new) result }
     {
-        let mut lower_row = [0; MOST_STATEMENTS];
-        let mut upper_row = [0; MOST_STATEMENTS];
-        let lower = &mut lower_row[..setting.len()];
-        let upper = &mut upper_row[..setting.len()];
-        match self.find_difference(lower, upper) {
+        let mut row = [0; MOST_STATEMENTS];
+        let upper = &mut row[..self.statements];
+        match self.find_difference(upper) {
             None => Comparison::Equal,
             Some(Difference::ModelOf(book)) => {
                 write_facts(upper, addendum);
@@ -40,8 +36,8 @@ impl<'a, S: Scale> Search<'a, S> {
                     rules: setting.len(),
                 }
             }
-            Some(Difference::PairOf(book)) => {
-                let rules = write_addendum(lower, upper, addendum);
+            Some(Difference::PairOf(book, lower)) => {
+                let rules = write_addendum(&lower[..self.statements], upper, addendum);
                 setting.copy_from_slice(upper);
                 Comparison::Unequal {
                     book: book.other(),
@@ -81,6 +77,7 @@ pub fn compare<S: Scale>(
         scale,
         first: first_program,
         second: second_program,
+        statements: length,
         count,
     };
     Ok(search.tell(addendum, setting))

@@ -7,6 +7,7 @@ mod calls;
 mod comparing;
 mod pairs;
 mod running;
+mod settings;
 mod steps;
 
 pub use answers::{Comparison, Which};

@@ -6,6 +6,7 @@ use Rattle.scale.proofs.Grants.{grants}
 use Rattle.book.specs.Ledger.{Clause, Lawful}
 use Rattle.book.specs.View.{ledger_of}
 use Rattle.theory.specs.Semantics.{AllByRecursion}
+use Rattle.solve.specs.Programs.{clauses_of}
 use Rattle.solve.proofs.Books.{granted, scale_lawful}
 use Rattle.engine.specs.Comparisons.{compare_refusal, places, Told, Compared}
 use Rattle.engine.proofs.Telling.{compared}
@@ -36,5 +37,5 @@ returns-clause-answer g c =
     let two : AllByRecursion (Lawful m.levels n) (ledger_of second).rules = subst (λ (k : ℕ). AllByRecursion (Lawful m.levels k) (ledger_of second).rules) (sym both) (scale_lawful m second (eqb-true m.levels second.levels made-too.0)) in
     let before = places addendum setting in
     let after = places c.tell.new.addendum c.tell.new.setting in
-    let told = subst₂ (λ (p q : List Clause). Told m n p q before after c.tell.result) made.1.1 made-too.1.1 (rw made.1.2 at c.tell.ensures) in
+    let told = subst₂ (λ (p q : List Clause). Told m n p q before after c.tell.result) made.1.1 made-too.1.1 (subst (λ (k : ℕ). Told m k (clauses_of c.in_ok-first_program.first_program) (clauses_of c.in_ok-second_program.second_program) before after c.tell.result) (c.from-length.ensures ∙ c.statements-statements.ensures) c.tell.ensures) in
     grants (compare_refusal m (ledger_of first) (ledger_of second) addendum setting) (Compared m n (ledger_of first).rules (ledger_of second).rules before after) c.tell.result none (compared laws n (ledger_of first).rules (ledger_of second).rules (scale_lawful m first levels) two before after c.tell.result told)

@@ -1,30 +1,23 @@
-use Rattle.std.proofs.Common.{◌<◌, ◌≤◌, ◌^◌, arith}
-use Rattle.solve.specs.Programs.{clauses_of, statements_of}
-use Rattle.engine.specs.Differences.{AgreeBelow}
-use Rattle.engine.proofs.Passing.{sweep_starts, sweep_goes_on, sweep_ends}
+use Rattle.std.proofs.Common.{◌∙◌, Some, subst, rules, arith, ℕ}
+use Rattle.solve.specs.Programs.{clauses_of}
+use Rattle.solve.specs.Ready.{AllBelow}
+use Rattle.theory.specs.Semantics.{Setting}
+use Rattle.engine.specs.Differences.{KeptBy}
+use Rattle.engine.proofs.Finding.{lower_found}
+use Rattle.engine.proofs.Telling.{program_some}
+use Rattle.engine.proofs.Zeros.{zeros_start, zeros_setting}
 use Rattle.engine.proofs.pairs.Search.lower_difference.Goals as goal
 
-pub loop-init : goal.loop-init
-loop-init g c =
-    let p = c.args.self.now in
-    let m = g.S.Scale.meaning p.scale.now in
-    sweep_starts m (statements_of p.first) (AgreeBelow m (clauses_of p.first) (clauses_of p.second) c.args.upper.now) c.args.lower.now c.requires.low c.requires.lowest
-
-pub loop-preserved : goal.loop-preserved
-loop-preserved g c =
-    let p = c.args.self.now in
-    let m = g.S.Scale.meaning p.scale.now in
-    let n = statements_of p.first in
-    let inside : c.loop.counter < m.levels ^ n = omega (arith, p.whole) in
-    sweep_goes_on m n (AgreeBelow m (clauses_of p.first) (clauses_of p.second) c.args.upper.now) c.loop.lower c.loop.counter c.loop.invariant c.levels-levels.result c.advance.new.row c.levels-levels.ensures inside c.in_default.ensures c.advance.auto.row c.advance.ensures
+pub first_answer-requires-clause-start : goal.first_answer-requires-clause-start
+first_answer-requires-clause-start g c = zeros_start c.args.self.now.statements (omega (arith, c.args.self.now.first.few, c.args.self.now.first_size)) c.levels.result
 
 pub returns : goal.returns
 returns g c =
     let p = c.args.self.now in
     let m = g.S.Scale.meaning p.scale.now in
-    let n = statements_of p.first in
-    let all : m.levels ^ n ≤ c.loop.counter = omega (arith, p.whole) in
-    record {
-      found = sweep_ends m n (AgreeBelow m (clauses_of p.first) (clauses_of p.second) c.args.upper.now) c.loop.lower c.loop.counter c.loop.invariant all;
-      setting = c.loop.invariant.setting;
-    }
+    let n = p.statements in
+    let row = c.first_answer.new.row in
+    let zeros = zeros_setting n (omega (arith, p.first.few, p.first_size)) m (program_some m p.first p.first_scale) in
+    let setting : Setting m n row = record { long = c.first_answer.auto.row ∙ zeros.long; degrees = subst (λ (k : ℕ). AllBelow k row) c.levels.ensures c.in_ok-book.ensures.0 } in
+    let kept : KeptBy m row c.args.upper.now (clauses_of p.first) (clauses_of p.second) (Some c.in_ok-book.book) = search rules in
+    lower_found m n c.args.upper.now (clauses_of p.first) (clauses_of p.second) c.in_ok-book.book row _ setting kept
