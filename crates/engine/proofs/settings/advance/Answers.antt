@@ -1,10 +1,7 @@
 use Rattle.std.proofs.Common.{◌∙◌}
 use Rattle.std.proofs.lemmas.List.{length-set}
-use Rattle.engine.proofs.Odometer.{carrying_starts, carry_spent, carry_on, advanced}
+use Rattle.engine.proofs.Odometer.{carry_spent, carry_on, advanced}
 use Rattle.engine.proofs.settings.advance.Goals as goal
-
-pub loop-statement-init : goal.loop-statement-init
-loop-statement-init c = carrying_starts c.args.levels c.args.row.now c.requires.1
 
 pub returns-then-row-statement : goal.returns-then-row-statement
 returns-then-row-statement c =
