@@ -1,10 +1,11 @@
 -- Sets of hours as masks: inclusion, complements and the number of members. The proof of the law of `Hours` cites them.
-use Rattle.std.specs.Prelude.{◌≡◌, ℕ, zero, suc, ◌+◌, ◌-◌, ◌/◌, ◌%◌, ◌^◌, ◌<◌, ◌≤◌, ◌≢◌, bit_and, bit_or, count_ones}
+use Rattle.std.specs.Prelude.{◌≡◌, ℕ, zero, suc, ◌+◌, ◌-◌, ◌/◌, ◌%◌, ◌^◌, ◌<◌, ◌≤◌, ◌≢◌, ◌==◌, bit_and, bit_or, count_ones}
 use Rattle.std.specs.Int.{bit_at}
 use Rattle.std.specs.Int.Bits.{and_self, or_add_and}
 use Rattle.std.specs.Int.Count.{ones_step}
 use Rattle.std.proofs.Common.{sym, ap, ◌∙◌, ⊎_elim, pow-suc, mod-eq_of_lt, arith}
 use Rattle.std.proofs.lemmas.Bool.{cases_eq}
+use Rattle.std.proofs.lemmas.Bool.Decides.{Decides-eqb, Decides-like, same_from_decides}
 use Rattle.std.proofs.lemmas.Nat.{and_shr, and_mask, and-not}
 use Rattle.std.proofs.lemmas.Nat.Bits.{bit_at_and, bit_at_or, bit_at-lt, same_from_bits}
 
@@ -12,6 +13,10 @@ use Rattle.std.proofs.lemmas.Nat.Bits.{bit_at_and, bit_at_or, bit_at-lt, same_fr
 infixl 20 ◌⊑◌
 abbrev pub ◌⊑◌ : ℕ → ℕ → Type 0
 a ⊑ b = bit_and a b ≡ a
+
+-- two tests of equality agree if each equality gives the other
+pub same_test : (p q r s : ℕ) → (p ≡ q → r ≡ s) → (r ≡ s → p ≡ q) → (p == q) ≡ (r == s)
+same_test p q r s to from = same_from_decides _ _ (Decides-eqb _ _) (Decides-like _ from to (Decides-eqb _ _))
 
 -- that is ≤ at each bit
 bits : (a b : ℕ) → a ⊑ b → (i : ℕ) → bit_at a i ≤ bit_at b i
@@ -35,6 +40,11 @@ or_right a b = within b (bit_or a b) (λ i. omega (arith, bit_at_or a b i))
 pub or_least : (a b c : ℕ) → a ⊑ c → b ⊑ c → bit_or a b ⊑ c
 or_least a b c p q = within (bit_or a b) c (λ i. omega (arith, bit_at_or a b i, bits a c p i, bits b c q i))
 
+-- joining and meeting distribute
+pub or_and : (a b c : ℕ) → bit_and (bit_or a b) c ≡ bit_or (bit_and a c) (bit_and b c)
+or_and a b c =
+    same_from_bits (bit_and (bit_or a b) c) (bit_or (bit_and a c) (bit_and b c)) (λ i. omega (arith, bit_at_and (bit_or a b) c i, bit_at_or a b i, bit_at_or (bit_and a c) (bit_and b c) i, bit_at_and a c i, bit_at_and b c i))
+
 -- the set of all h hours
 abbrev all : ℕ → ℕ
 all h = 2 ^ h - 1
@@ -42,7 +52,7 @@ all h = 2 ^ h - 1
 pub in_all : (h a : ℕ) → a < 2 ^ h → a ⊑ all h
 in_all h a p = and_mask a h ∙ mod-eq_of_lt p
 
--- a set and its complement share no hour, and make up all of them
+-- an hour is in the complement where it is in all and not in the set
 lack_bit : (h a : ℕ) → a < 2 ^ h → (i : ℕ) → bit_at (all h - a) i ≡ bit_at (all h) i - bit_at a i
 lack_bit h a p i =
     let apart : bit_and (all h - a) a ≡ 0 = omega (arith, and-not h a a p p, and_self a) in

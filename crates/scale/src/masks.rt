@@ -7,7 +7,6 @@ ghost use Rattle.std.proofs.Math.Pow.{ones_sub-lt};
 ghost use Rattle.std.proofs.lemmas.Nat.{and_assoc, and_comm, or_lt, ones-le};
 ghost use Rattle.std.specs.Int.Bits.{and_self, and_lt};
 ghost use Rattle.std.proofs.lemmas.Bool.{eqb-true, eq-eqb};
-ghost use Rattle.std.proofs.lemmas.Bool.Decides.{Decides-eqb, Decides-like, same_from_decides};
 ghost use Rattle.scale.specs.Sets;
 
 use super::size::Size;
@@ -66,7 +65,7 @@ impl Scale for Hours {
           product_comm = λ a b p q. and_comm a b;
           product_assoc = λ a b c p q r. and_assoc c a b;
           product_top = λ a p. and_comm (2 ^ h - 1) a ∙ Sets.in_all h a p;
-          residuation = λ a b c p q r. same_from_decides _ _ (Decides-eqb _ _) (Decides-like _ (Sets.from_residuum h a b c p) (Sets.to_residuum h a b c p r) (Decides-eqb _ _));
+          residuation = λ a b c p q r. Sets.same_test _ _ _ _ (Sets.to_residuum h a b c p r) (Sets.from_residuum h a b c p);
           lack_antitone = λ a b p q x. eq-eqb _ _ (Sets.lack_turns h a b p q (eqb-true _ _ x));
           lack_bottom = omega arith;
           lack_top = omega arith;
