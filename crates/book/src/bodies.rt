@@ -1,10 +1,11 @@
-// How a body is made and read.
+// How a body and a fact are made, and a body read.
 ghost use Rattle.std.specs.Prelude.{◌≡◌, [], ◌∷◌};
 ghost use Rattle.scale.specs.declared.refusal.Refusal.TheVariants.{BodyTooLong};
-ghost use Rattle.book.specs.Rows.{literals_of, Built};
+ghost use Rattle.book.specs.Ledger.{clause};
+ghost use Rattle.book.specs.Rows.{literals_of, clause_of, Built};
 
-use super::rows::{Body, MOST_LITERALS};
-use super::rule::Literal;
+use super::rows::{Body, MOST_LITERALS, Rule};
+use super::rule::{Head, Literal};
 use scale::Refusal;
 
 impl Body {
@@ -45,5 +46,18 @@ impl Body {
         ensures { result.now ≡ literals_of self.now }
     {
         &self.literals[..self.len]
+    }
+}
+
+impl Rule {
+    // A rule with no literals, which demands its weight.
+    pub fn fact(head: Head, weight: u8) -> Rule
+        ensures { clause_of result ≡ clause head weight [] }
+    {
+        Rule {
+            head,
+            weight,
+            body: Body::empty(),
+        }
     }
 }

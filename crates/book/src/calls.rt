@@ -8,7 +8,7 @@ ghost use Rattle.book.specs.Admission.{Admitted};
 ghost use Rattle.book.specs.View.{ledger_of};
 
 use super::books::Book;
-use super::rows::{Body, Rule};
+use super::rows::{Body, MOST_STATEMENTS, Rule};
 use super::rule::{Head, Literal};
 use super::table::RuleTable;
 use scale::Refusal;
@@ -17,11 +17,11 @@ use std::alloc::{AllocError, Global};
 // The most rules that a book may have.
 const MOST_RULES: usize = 64;
 
-// May a book be made of these levels and statements?
+// May a book be made of these levels and statements? The two go together here and in `make` alone, so they have no type.
 pub fn allowed_size(levels: u8, statements: u8) -> Result<(), Refusal>
     ensures { result ≡ answered (make_refusal levels statements) tt }
 {
-    if !(2..=64).contains(&levels) || statements > 16 {
+    if !(2..=64).contains(&levels) || usize::from(statements) > MOST_STATEMENTS {
         return Err(Refusal::BookSize);
     }
     Ok(())

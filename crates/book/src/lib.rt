@@ -11,5 +11,5 @@ mod table;
 
 pub use books::Book;
 pub use calls::allowed_size;
-pub use rows::{Body, Rule};
+pub use rows::{Body, MOST_STATEMENTS, Rule};
 pub use rule::{Head, Literal};

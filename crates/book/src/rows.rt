@@ -3,11 +3,13 @@ ghost use Rattle.std.specs.Prelude.{◌≤◌};
 
 use super::rule::{Head, Literal};
 
+// The most statements that a book may have, and so the longest row of degrees.
+pub const MOST_STATEMENTS: usize = 16;
+
 // The most literals that a body may have.
 pub const MOST_LITERALS: usize = 4;
 
-// A list of at most four literals: an array with its length and no `ArrayVec`, since a rule is Copy and a call on a
-// book takes no memory.
+// A list of at most four literals: an array with its length, since a rule is `Copy`, which an `ArrayVec` is not.
 #[derive(Clone, Copy)]
 pub struct Body {
     pub(crate) literals: [Literal; MOST_LITERALS],

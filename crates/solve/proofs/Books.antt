@@ -10,7 +10,7 @@ use Rattle.book.specs.Ledger.{Clause, Ledger, Lawful}
 use Rattle.book.specs.View.{ledger_of}
 use Rattle.book.specs.declared.books.Book.{Book}
 use Rattle.book.proofs.Lawfulness.{book_lawful}
-use Rattle.book.proofs.Every.{every_at}
+use Rattle.std.proofs.lemmas.List.Sums.{AllPass-from_list_all}
 use Rattle.theory.specs.Semantics.{AllByRecursion, Setting, at}
 use Rattle.solve.specs.Programs.{ProgramOf, meaning_of, clauses_of, statements_of}
 use Rattle.solve.specs.declared.program.Program.{Program}
@@ -34,7 +34,7 @@ program_levels {S} {members} scale l p of same = ap (λ (s : S). (members.meanin
 
 pub degrees_from : (levels : ℕ) (row : List ℕ) → 0 < levels → list_all (λ d. ltb d levels) row ≡ true → (s : ℕ) → at row s < levels
 degrees_from levels row some passed s =
-    ⊎_elim (λ h. ltb-true (at row s) levels (every_at (λ d. ltb d levels) row s 0 passed h)) (λ h. subst (λ (x : ℕ). x < levels) (sym (get_or_past row s 0 h)) some)
+    ⊎_elim (λ h. ltb-true (at row s) levels (AllPass-from_list_all (λ d. ltb d levels) row passed s 0 h)) (λ h. subst (λ (x : ℕ). x < levels) (sym (get_or_past row s 0 h)) some)
     (cases_lt s (length row))
 
 -- a row that passed the tests is a setting
