@@ -36,7 +36,3 @@ pub few_rounds : {m : Meaning} (laws : Laws m) (n : ℕ) → n ≤ 16 → n * m.
 few_rounds {m} laws n h =
     let low : m.height ≤ 63 = omega (arith, laws.height_bound, laws.levels_most) in
     mul-le-mul h low
-
--- the front of a row that is 0 everywhere
-pub zeros_front : (n : ℕ) → n ≤ 16 → take {A = ℕ} (n - 0) (replicate 16 0) ≡ replicate n 0
-zeros_front n h = rw sub-zero (take-replicate n 16 0 h)

@@ -10,9 +10,9 @@ ghost use Rattle.solve.specs.Verdicts.{check_refusal, yield_refusal, YieldAt, Ju
 ghost use Rattle.solve.specs.Words.{words_of};
 
 use super::program::Program;
-use super::raising::{MOST_STATEMENTS, first_difference};
+use super::raising::first_difference;
 use super::values::Valuation;
-use book::Book;
+use book::{Book, MOST_STATEMENTS};
 use scale::{Refusal, Scale};
 use std::fmt;
 
@@ -67,6 +67,7 @@ impl<'a, S: Scale> Program<'a, S> {
             let residuum = valuation.rule_residuum(&self.rules[rule]);
             return Verdict::Broken { rule, residuum };
         }
+        // An array cut to the statements: it is written over and never grows, and takes no memory.
         let mut lower = [0; MOST_STATEMENTS];
         let least = &mut lower[..row.len()];
         let rounds = self.least_model(row, least);

@@ -12,6 +12,6 @@ mod values;
 pub use judging::{Verdict, check, yield_at};
 pub use limits::most_rounds;
 pub use program::Program;
-pub use seeking::seek;
+pub use seeking::{MOST_SETTINGS, seek};
 pub use settings::setting_count;
 pub use values::{degree, rule_holds};

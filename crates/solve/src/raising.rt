@@ -6,10 +6,8 @@ ghost use Rattle.solve.specs.Ready.{Degrees, FirstDifference};
 
 use super::program::Program;
 use super::values::Valuation;
+use book::MOST_STATEMENTS;
 use scale::Scale;
-
-// The most statements that a book may have, and so the longest row.
-pub(crate) const MOST_STATEMENTS: usize = 16;
 
 impl<'a, S: Scale> Program<'a, S> {
     // The join of what all rules demand of a statement.
@@ -47,6 +45,7 @@ impl<'a, S: Scale> Program<'a, S> {
         ensures rounds { Rounds (meaning_of self.now) (clauses_of self.now) (statements_of self.now) upper.now result }
         ensures after { lower.new ≡ raised (meaning_of self.now) (clauses_of self.now) (statements_of self.now) upper.now result }
     {
+        // An array cut to the statements: it is written over and never grows, and takes no memory.
         let mut row = [0; MOST_STATEMENTS];
         let next = &mut row[..upper.len()];
         lower.copy_from_slice(next);

@@ -7,13 +7,12 @@ ghost use Rattle.solve.specs.Programs.{meaning_of, clauses_of, statements_of};
 ghost use Rattle.solve.specs.Searches.{seek_refusal, NoSceneBetween, FirstScene, Sought, Found};
 
 use super::program::Program;
-use super::raising::MOST_STATEMENTS;
 use super::settings::{setting_count, write_setting};
-use book::Book;
+use book::{Book, MOST_STATEMENTS};
 use scale::{Refusal, Scale};
 
 // The most settings that seek goes through.
-const MOST_SETTINGS: u32 = 65_536;
+pub const MOST_SETTINGS: u32 = 65_536;
 
 impl<'a, S: Scale> Program<'a, S> {
     // Does one raising leave the setting alone?
@@ -32,6 +31,7 @@ impl<'a, S: Scale> Program<'a, S> {
         if !self.stands(row) || !self.all_hold(row) {
             return None;
         }
+        // An array cut to the statements: it is written over and never grows, and takes no memory.
         let mut lower = [0; MOST_STATEMENTS];
         let least = &mut lower[..row.len()];
         let rounds = self.least_model(row, least);
@@ -61,6 +61,7 @@ impl<'a, S: Scale> Program<'a, S> {
         requires whole { count ≡ (meaning_of self.now).levels ^ statements_of self.now }
         ensures { Sought (meaning_of self.now) (clauses_of self.now) (statements_of self.now) start place.old place.new result }
     {
+        // An array cut to the statements: it is written over and never grows, and takes no memory.
         let mut candidate = [0; MOST_STATEMENTS];
         let row = &mut candidate[..place.len()];
         let found = self.first_scene(start, count, row);
