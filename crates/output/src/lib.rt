@@ -4,7 +4,7 @@
 mod lines;
 mod texts;
 
-pub use lines::{Line, write_line};
+pub use lines::{LEAST_PLACE, Line, write_line};
 
 #[cfg(test)]
 mod tests;

@@ -11,11 +11,11 @@ use scale::Refusal;
 // The highest degree of any scale.
 const MOST_DEGREE: u8 = 63;
 
-// The most degrees that a scene has.
+// The most degrees that a scene has: as many as a book has statements, though a line knows no book.
 const MOST_DEGREES: usize = 16;
 
 // The least place that is taken, whatever the line: each line fits it.
-pub(crate) const LEAST_PLACE: usize = 96;
+pub const LEAST_PLACE: usize = 96;
 
 // What a line tells. No number is too large for its line: a scene's has at most 80 bytes, the count's 28 and a refusal's 64.
 #[derive(Clone, Copy, Debug, PartialEq, Eq)]

@@ -13,7 +13,8 @@ pub fn name_of<'a>(names: &[&'a [u8]], statement: u8) -> &'a [u8]
     names.get(usize::from(statement)).copied().unwrap_or(b"?")
 }
 
-// A line that grows, and the names of the statements that it tells of.
+// A line that grows, and the names of the statements that it tells of. Bytes and no `Display`, since a name is a part of a
+// text of bytes.
 #[derive(Drop)]
 struct Line<'a> {
     names: &'a [&'a [u8]],
@@ -59,6 +60,7 @@ impl Line<'_> {
     fn put_literals(&mut self, literals: &[Literal]) -> Result<(), AllocError>
         ensures { OnOk result (Gains (literals_text (names_of self.old) (codes " : ") literals.now) self.old self.new) }
     {
+        // No `join`, which would need each literal as a text of its own.
         let mut lead: &[u8] = b" : ";
         for literal in literals {
             self.put(lead)?;
