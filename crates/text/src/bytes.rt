@@ -11,6 +11,7 @@ pub(crate) fn is_word_byte(b: u8) -> bool
     matches!(b, b'a'..=b'z' | b'0'..=b'9' | b'_')
 }
 
+// The mark that a byte is. No `TryFrom`, whose error nobody would read: most bytes are no mark.
 pub(crate) fn mark_of(b: u8) -> Option<Mark>
     ensures { result ≡ sign_of b }
 {

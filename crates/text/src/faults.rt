@@ -131,7 +131,8 @@ impl LineFault {
 }
 
 impl ReadFault {
-    // The number of the cause; 0 is want of memory.
+    // The number of the cause, as a line of output shows it: a number, and not an enum, since users see it. 0, which no
+    // cause has, is want of memory.
     pub fn number(&self) -> u8
         ensures { result ≡ number_of self.now }
     {

@@ -17,5 +17,5 @@ mod steps;
 mod tokens;
 
 pub use faults::{Layer, LineFault, Place, ReadFault, TextFault};
-pub use reading::{Named, Reading, read, read_named};
+pub use reading::{LONGEST_TEXT, Named, Reading, read, read_named};
 pub use sizes::{OnScale, ScaleKind};

@@ -63,7 +63,8 @@ impl<'a> Names<'a> {
         }
     }
 
-    // The body over statement numbers, or nothing where a name is not known.
+    // The body over statement numbers, or nothing where a name is not known. A loop beside that of `parse_terms`: one function
+    // for both would take an iterator and a closure, and be no shorter.
     pub(crate) fn body(
         &self,
         heap: Global,

@@ -1,4 +1,5 @@
-// Lines are told by their shape.
+// Lines are told by their shape. Memory and tokens stay two parameters, since each parser hands on another part of the
+// tokens.
 ghost use Rattle.std.specs.Prelude.{◌≡◌, map, IfOk};
 ghost use Rattle.std.specs.Option.{option_map};
 ghost use Rattle.text.specs.Tokens.{said};
@@ -103,6 +104,7 @@ fn rule_with<'a>(
     let (Some(lead), Some(weight)) = (lead, weight) else {
         return Ok(None);
     };
+    // A match, since what `map` would answer did not prove.
     match parse_body(heap, body)? {
         Some(body) => Ok(Some(Line::Rule(lead, weight, body))),
         None => Ok(None),

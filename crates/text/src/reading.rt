@@ -15,7 +15,7 @@ use book::Book;
 use std::alloc::Global;
 
 // The longest text, in bytes.
-const LONGEST_TEXT: usize = 8192;
+pub const LONGEST_TEXT: usize = 8192;
 
 // What a text says of its scale, and how many statements it declares.
 #[derive(Clone, Copy, PartialEq, Eq, Debug)]
@@ -56,6 +56,7 @@ fn read_lines<'a>(text: &'a [u8], draft: &mut Draft<'a>) -> Result<(), ReadFault
     requires { length text.now ≤ 8192 }
     ensures { Did (rows_read line_of (state_of draft.old) (lines_of text.now)) result (state_of draft.new) }
 {
+    // The place goes along, since `split` does not tell where a part begins.
     let mut place = Place { line: 1, byte: 0 };
     for line in text.split(|b| *b == b'\n') {
         draft.read_line(line, place)?;

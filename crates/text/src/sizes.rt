@@ -1,5 +1,5 @@
 // The kinds of scale, and what is done on a scale whose kind is known only at run time.
-ghost use Rattle.std.specs.Prelude.{◌≡◌, Some};
+ghost use Rattle.std.specs.Prelude.{◌≡◌, Some, ⊤};
 ghost use Rattle.scale.specs.Causes.{Answers, answered};
 ghost use Rattle.scale.specs.Meaning.{Meaning};
 ghost use Rattle.text.specs.Parsing.{worded};
@@ -32,14 +32,15 @@ impl fmt::Display for ScaleKind {
 pub trait OnScale {
     type Answer;
 
-    // What the task may answer on a scale of this meaning.
-    ghost answers: { Self → Meaning → Self.Answer → Type 0 };
+    // What the task may answer on a scale of this meaning; a task of which nothing is proved leaves it out.
+    ghost answers: { Self → Meaning → Self.Answer → Type 0 } = { λ _ _ _. ⊤ };
 
     fn on_scale<S: Scale>(self, scale: &S) -> Self::Answer
         ensures { answers self (S.meaning scale.now) result };
 }
 
 impl ScaleKind {
+    // The kind that a word names. No `TryFrom`, whose error nobody would read: a line with another word has no shape.
     pub(crate) fn of_word(word: &[u8]) -> Option<ScaleKind>
         ensures { result ≡ worded word.now }
     {
