@@ -29,14 +29,6 @@ pub record Carrying (levels : ℕ) (before : List ℕ) (t : ℕ) (row : List ℕ
   pub carry : position levels row + levels ^ (length row - t) ≡ position levels before + 1
   pub degrees : (s : ℕ) → at row s < levels
 
-pub carrying_starts : (levels : ℕ) (row : List ℕ) → ((s : ℕ) → at row s < levels) → Carrying levels row (length row) row
-carrying_starts levels row small = record {
-  within = omega arith;
-  long = refl;
-  carry = ap (λ (k : ℕ). position levels row + k) (ap (λ (k : ℕ). levels ^ k) (sub_self (length row)) ∙ pow-zero levels);
-  degrees = small;
-}
-
 -- another degree at one place keeps a row's degrees
 set_degrees : (levels s x : ℕ) (row : List ℕ) → s < length row → x < levels → ((k : ℕ) → at row k < levels) → (k : ℕ) → at (set row s x) k < levels
 set_degrees levels s x row h small all k =

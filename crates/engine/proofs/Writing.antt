@@ -8,22 +8,14 @@ use Rattle.std.proofs.lemmas.List.Sums.{length-filter, count_by-le-length}
 use Rattle.std.proofs.Math.Seq.{take-length, take-append-add, drop-append-add}
 use Rattle.std.proofs.lemmas.Bool.{cond-true, cond-false, eq-eqb, ne_eqb, not_from_true, not_from_false}
 use Rattle.book.specs.Ledger.{Clause}
-use Rattle.book.specs.Rows.{literals_of, clause_of}
-use Rattle.book.specs.declared.rows.Body.{Body}
+use Rattle.book.specs.Rows.{clause_of}
 use Rattle.book.specs.declared.rows.Rule.{Rule}
-use Rattle.book.specs.declared.rule.Head.TheVariants.{Statement}
 use Rattle.theory.specs.Semantics.{at}
 use Rattle.theory.specs.Equivalence.{fact, facts, differs, differing, last_of}
 
--- a rule that demands for statement s the degree that a row gives it
-abbrev pub rule_for : List ℕ → ℕ → Body → Rule
-rule_for row s body = record { head = Statement s; weight = at row s; body = body }
-
 -- one more fact is written
-pub facts_more : (row : List ℕ) (place : List Rule) (i : ℕ) (body : Body) → i < length place → literals_of body ≡ [] → map clause_of (take i place) ≡ facts i row → map clause_of (take (i + 1) (set place i (rule_for row i body))) ≡ facts (i + 1) row
-facts_more row place i body room empty so_far =
-    let rule = rule_for row i body in
-    let is : clause_of rule ≡ fact row i = ap (λ ls. record { head = Statement i; weight = at row i; body = ls }) empty in
+pub facts_more : (row : List ℕ) (place : List Rule) (i : ℕ) (rule : Rule) → i < length place → clause_of rule ≡ fact row i → map clause_of (take i place) ≡ facts i row → map clause_of (take (i + 1) (set place i rule)) ≡ facts (i + 1) row
+facts_more row place i rule room is so_far =
     ap (map clause_of) (take_more_set place i rule room) ∙ map_push clause_of (take i place) rule ∙ ap (λ front. front ++ clause_of rule ∷ []) so_far ∙ ap (λ c. facts i row ++ c ∷ []) is ∙ sym (map-range_with_len_more (fact row) 0 i i (omega arith))
 
 -- the rows past one more rule are those past the rules so far

@@ -1,5 +1,5 @@
 -- What compare answers: strong equivalence, or what tells the two books apart.
-use Rattle.std.specs.Prelude.{◌≡◌, ℕ, ◌*◌, ◌^◌, ◌≤◌, Bool, true, false, not, ◌↔◌, List, [], ◌∷◌, map, length, take, drop, Option, ◌==◌, nat_lt, codes}
+use Rattle.std.specs.Prelude.{◌≡◌, ℕ, ◌*◌, ◌^◌, ◌≤◌, Bool, true, false, not, ◌↔◌, List, [], ◌∷◌, ◌++◌, map, length, take, drop, Option, ◌==◌, nat_lt, codes, decimal}
 use Rattle.scale.specs.declared.refusal.Refusal.{Refusal}
 use Rattle.scale.specs.declared.refusal.Refusal.TheVariants.{LevelsDiffer, StatementsDiffer, PlaceLength, TooManySettings}
 use Rattle.scale.specs.Causes.{cause, first_met}
@@ -21,6 +21,11 @@ other_of Second = First
 abbrev pub word_of : Which → List ℕ
 word_of First = codes "first"
 word_of Second = codes "second"
+
+-- how users see the answer
+abbrev pub words_of : Comparison → List ℕ
+words_of Equal = codes "equal"
+words_of (Unequal book count) = codes "unequal " ++ word_of book ++ codes " " ++ decimal count
 
 -- the causes that compare tests, with the rows of the addendum's place and of the setting's
 abbrev pub compare_refusal : Meaning → Ledger → Ledger → List Rule → List ℕ → Option Refusal

@@ -19,10 +19,10 @@ pub record Advanced (levels : ℕ) (before after : List ℕ) : Type 0 where
   pub next : position levels before + 1 < levels ^ length before → position levels after ≡ position levels before + 1
   pub wrap : position levels before + 1 ≡ levels ^ length before → position levels after ≡ 0
 
--- what a test answers first at rows of n degrees below `levels`, and the row at which it does; or that it answers nothing at all of them
-abbrev pub FirstAnswer : {T : Type 0} → ℕ → ℕ → (List ℕ → Option T → Type 0) → List ℕ → Option T → Type 0
-FirstAnswer levels n answers row None = (other : List ℕ) → length other ≡ n → AllBelow levels other → answers other None
-FirstAnswer levels n answers row (Some x) = AllBelow levels row × answers row (Some x)
+-- an answer of a test, and a row of degrees below `levels` at which it gives it; or that it gives none at any row of n such degrees
+abbrev pub Answered : {T : Type 0} → ℕ → ℕ → (List ℕ → Option T → Type 0) → List ℕ → Option T → Type 0
+Answered levels n answers row None = (other : List ℕ) → length other ≡ n → AllBelow levels other → answers other None
+Answered levels n answers row (Some x) = AllBelow levels row × answers row (Some x)
 
 -- every rule holds at the row
 abbrev pub Holds : Meaning → List ℕ → List Clause → Type 0

@@ -3,12 +3,12 @@ ghost use Rattle.std.specs.Prelude.{◌≡◌, ◌*◌, ◌≤◌, map, length, 
 ghost use Rattle.book.specs.Rows.{clause_of};
 ghost use Rattle.theory.specs.Equivalence.{facts, differing as differing_statements, cycle, addendum as addendum_of};
 
-use super::settings::MOST_STATEMENTS;
 use arrayvec::ArrayVec;
-use book::{Body, Head, Literal, Rule};
+use book::{Body, Head, Literal, MOST_STATEMENTS, Rule};
 use solve::degree;
 
-// Writes for each statement the fact that demands its degree.
+// Writes for each statement the fact that demands its degree. By index, as the cycle below, since a proof knows nothing
+// of what is written through the zip of two rows.
 pub(crate) fn write_facts(row: &[u8], addendum: &mut [Rule])
     requires short { length row.now ≤ 16 }
     requires room { length row.now ≤ length addendum.old }
@@ -17,15 +17,11 @@ pub(crate) fn write_facts(row: &[u8], addendum: &mut [Rule])
     ensures size { length addendum.new ≡ length addendum.old }
 {
     for (s, degree) in row.iter().enumerate() {
-        addendum[s] = Rule {
-            head: Head::Statement(s as u8),
-            weight: *degree,
-            body: Body::empty(),
-        };
+        addendum[s] = Rule::fact(Head::Statement(s as u8), *degree);
     }
 }
 
-// The statements at which two rows differ, in their order.
+// The statements at which two rows differ, in their order. By index too: with `zip` the invariant has no count to go by.
 fn differing(lower: &[u8], upper: &[u8]) -> ArrayVec<u8, MOST_STATEMENTS>
     requires short { length lower.now ≤ 16 }
     requires same { length upper.now ≡ length lower.now }
@@ -58,7 +54,8 @@ fn write_cycle(lower: &[u8], upper: &[u8], statements: &[u8], addendum: &mut [Ru
     }
 }
 
-// Writes the addendum of two rows, and answers how many rules it has.
+// Writes the addendum of two rows, and answers how many rules it has. The rows and the place have one caller, so no type
+// holds the three.
 pub(crate) fn write_addendum(lower: &[u8], upper: &[u8], addendum: &mut [Rule]) -> usize
     requires short { length lower.now ≤ 16 }
     requires same { length upper.now ≡ length lower.now }

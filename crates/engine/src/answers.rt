@@ -1,6 +1,6 @@
 // What compare answers.
 ghost use Rattle.std.specs.Prelude.{◌≡◌, Some};
-ghost use Rattle.engine.specs.Comparisons.{other_of, word_of};
+ghost use Rattle.engine.specs.Comparisons.{other_of, word_of, words_of};
 
 use std::fmt;
 
@@ -40,4 +40,15 @@ impl fmt::Display for Which {
 pub enum Comparison {
     Equal,
     Unequal { book: Which, rules: usize },
+}
+
+impl fmt::Display for Comparison {
+    ghost output = { λ answer. Some (words_of answer) };
+
+    fn fmt<W: fmt::Write>(&self, f: &mut fmt::Formatter<W>) -> fmt::Result {
+        match self {
+            Comparison::Equal => write!(f, "equal"),
+            Comparison::Unequal { book, rules } => write!(f, "unequal {book} {rules}"),
+        }
+    }
 }

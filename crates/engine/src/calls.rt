@@ -18,7 +18,8 @@ pub struct Size {
     pub statements: u8,
 }
 
-// A call on one of two books, or on both. It owns its settings and places.
+// A call on one of two books, or on both. It owns its settings and places. Calls are data and no closures, since what a
+// run promises speaks of each call in the list.
 #[derive(Drop)]
 pub enum Call {
     Enter {

@@ -7,8 +7,7 @@ ghost use Rattle.engine.specs.Comparisons.{compare_refusal, places, Told, Compar
 use super::addenda::{write_addendum, write_facts};
 use super::answers::Comparison;
 use super::pairs::{Difference, Search};
-use super::settings::MOST_STATEMENTS;
-use book::{Book, Rule};
+use book::{Book, MOST_STATEMENTS, Rule};
 use scale::{Refusal, Scale};
 use solve::{Program, setting_count};
 
@@ -24,6 +23,7 @@ impl<'a, S: Scale> Search<'a, S> {
         requires room { 2 * length setting.old ≤ length addendum.old }
         ensures { Told (S.meaning self.now.scale.now) self.now.statements (clauses_of self.now.first) (clauses_of self.now.second) (places addendum.old setting.old) (places addendum.new setting.new) result }
     {
+        // An array cut to the statements: it is written over and never grows, and takes no memory.
         let mut row = [0; MOST_STATEMENTS];
         let upper = &mut row[..self.statements];
         match self.find_difference(upper) {

@@ -8,21 +8,22 @@ ghost use Rattle.solve.specs.Programs.{meaning_of, clauses_of, statements_of};
 ghost use Rattle.engine.specs.Differences.{KeptBy, LowerFound, UpperFound, Differs};
 
 use super::answers::Which;
-use super::settings::{MOST_STATEMENTS, first_answer};
+use super::settings::first_answer;
+use book::MOST_STATEMENTS;
 use scale::Scale;
 use solve::Program;
 
 // Where two books differ: at a setting at which the rules of one book all hold and not those of the other, or at a pair
 // of one book, whose upper setting satisfies both, that is no pair of the other. The lower setting of a pair comes with
-// it, in the first places of a row.
+// it, in the first places of a row: an array, which is copied and takes no memory.
 #[derive(Clone, Copy)]
 pub(crate) enum Difference {
     ModelOf(Which),
     PairOf(Which, [u8; MOST_STATEMENTS]),
 }
 
-// Is one setting below another, statement by statement? A loop, since the chain of both rows' iterators (`zip`, `all`)
-// made compare a tenth slower: it is asked of each pair of settings.
+// Is one setting below another, statement by statement? A `for`, since with the chain of both rows' iterators (`zip`, `all`)
+// compare took a tenth longer: this is asked of each pair of settings.
 fn is_under<S: Scale>(scale: &S, lower: &[u8], upper: &[u8]) -> bool
     requires { (Degrees (S.meaning scale.now) lower.now) × ((Degrees (S.meaning scale.now) upper.now) × (length lower.now ≡ length upper.now)) }
     ensures { MatchBool result (Under (S.meaning scale.now) lower.now upper.now) (Under (S.meaning scale.now) lower.now upper.now → ⊥) }
@@ -35,7 +36,8 @@ fn is_under<S: Scale>(scale: &S, lower: &[u8], upper: &[u8]) -> bool
     true
 }
 
-// Two programs of one scale and as many statements, and the number of their settings.
+// Two programs of one scale and as many statements, and the number of their settings. Settings are slices here too, as in
+// `Program`.
 #[derive(Drop)]
 pub(crate) struct Search<'a, S: Scale> {
     pub(crate) scale: &'a S,
@@ -74,6 +76,7 @@ impl<'a, S: Scale> Search<'a, S> {
         requires { Setting (S.meaning self.now.scale.now) self.now.statements upper.now }
         ensures { LowerFound (S.meaning self.now.scale.now) self.now.statements upper.now (clauses_of self.now.first) (clauses_of self.now.second) result }
     {
+        // An array cut to the statements: it is written over and never grows, and takes no memory.
         let mut row = [0; MOST_STATEMENTS];
         let lower = &mut row[..self.statements];
         let book = first_answer(lower, self.scale.levels(), self.count, |lower| {

@@ -9,7 +9,8 @@ use book::{Book, allowed_size};
 use scale::{Refusal, Scale};
 use std::alloc::Global;
 
-// Makes both books, or neither.
+// Makes both books, or neither. Here and below the two books are two parameters, since a call changes one of them and reads
+// the other.
 fn make_both(
     first: &mut Book,
     second: &mut Book,

@@ -3,10 +3,7 @@ ghost use Rattle.std.specs.Prelude.{◌≡◌, ◌^◌, ◌≤◌, length};
 ghost use Rattle.std.specs.Fn.{FnReturnsAt};
 ghost use Rattle.theory.specs.Position.{position};
 ghost use Rattle.solve.specs.Ready.{AllBelow};
-ghost use Rattle.engine.specs.Differences.{Advanced, FirstAnswer};
-
-// The most statements that a book may have, and so the longest row.
-pub(crate) const MOST_STATEMENTS: usize = 16;
+ghost use Rattle.engine.specs.Differences.{Advanced, Answered};
 
 // Goes on to the setting of the next position; from the last one back to the first. By index, since a proof knows nothing
 // of what is written through the reversed `iter_mut`.
@@ -24,7 +21,7 @@ fn advance(row: &mut [u8], levels: u8)
 }
 
 // The first answer that a test gives, going through all settings from the one of position 0 on. That setting stays in the
-// row. `count` is the number of all settings.
+// row. `count` is the number of all settings. The solver's search is another: it tells positions and begins at any.
 pub(crate) fn first_answer<T, F: Fn(&[u8]) -> Option<T>>(
     row: &mut [u8],
     levels: u8,
@@ -35,7 +32,7 @@ pub(crate) fn first_answer<T, F: Fn(&[u8]) -> Option<T>>(
     requires degrees { AllBelow levels row.old }
     requires start { position levels row.old ≡ 0 }
     requires whole { count ≡ levels ^ length row.old }
-    ensures { FirstAnswer levels (length row.old) (FnReturnsAt F.Fn test) row.new result }
+    ensures { Answered levels (length row.old) (FnReturnsAt F.Fn test) row.new result }
 {
     for _ in 0..count {
         if let Some(answer) = test(row) {
