@@ -1,10 +1,11 @@
 // The bytes of a text, from standard input or a file.
-use anyhow::anyhow;
+use anyhow::Context;
 use std::fs::File;
 use std::io::Read;
+use text::LONGEST_TEXT;
 
 // One byte more than a text may have: a longer file is refused, so the rest of it need not be read.
-const ENOUGH: u64 = 8193;
+const ENOUGH: u64 = LONGEST_TEXT as u64 + 1;
 
 // What standard input has, to its end.
 pub fn read_input(rt: &HostRuntime) -> anyhow::Result<Vec<u8>> {
@@ -16,11 +17,9 @@ pub fn read_input(rt: &HostRuntime) -> anyhow::Result<Vec<u8>> {
 // What a file has, or a message with its path.
 pub fn read_file(rt: &HostRuntime, path: &str) -> anyhow::Result<Vec<u8>> {
     let mut bytes = Vec::new(rt.alloc());
-    match File::open(rt, path) {
-        Ok(file) => match file.take(ENOUGH).read_to_end(&mut bytes) {
-            Ok(_) => Ok(bytes),
-            Err(error) => Err(anyhow!(format!(in rt.alloc(); "cannot read {path}: {error}")?)),
-        },
-        Err(error) => Err(anyhow!(format!(in rt.alloc(); "cannot open {path}: {error}")?)),
-    }
+    let file = File::open(rt, path).context(format_args!("cannot open {path}"))?;
+    file.take(ENOUGH)
+        .read_to_end(&mut bytes)
+        .context(format_args!("cannot read {path}"))?;
+    Ok(bytes)
 }

@@ -2,17 +2,15 @@
 ghost use Rattle.std.specs.Prelude.{◌≡◌, IsUtf8};
 ghost use Rattle.console.specs.declared.prints.Stop.TheVariants.{Refused, Failed};
 
-use super::words::{fault_words, refusal_words};
 use anyhow::anyhow;
-use output::{Line, write_line};
+use output::{LEAST_PLACE, Line, write_line};
 use scale::Refusal;
+use std::alloc::AllocError;
 use std::io::Write;
 use text::ReadFault;
 
-// The longest line of output.
-const LONGEST_LINE: usize = 96;
-
 // Why a program's work stopped: the engine refused it, or something outside failed.
+#[derive(Drop)]
 pub enum Stop {
     Refused(Refusal),
     Failed(anyhow::Error),
@@ -26,6 +24,14 @@ impl From<Refusal> for Stop {
     }
 }
 
+impl From<AllocError> for Stop {
+    ghost from_gives = { λ _ r. (error : _) × (r ≡ Failed error) };
+
+    fn from(error: AllocError) -> Stop {
+        Stop::Failed(error.into())
+    }
+}
+
 impl From<anyhow::Error> for Stop {
     ghost from_gives = { λ e r. r ≡ Failed e };
 
@@ -35,11 +41,11 @@ impl From<anyhow::Error> for Stop {
 }
 
 // A line of output goes out whole, or the failure is handed on.
-pub fn print_line(rt: &HostRuntime, line: &Line) -> anyhow::Result<()> {
-    let mut place = [0; LONGEST_LINE];
+pub fn print_line(out: &mut impl Write, line: &Line) -> anyhow::Result<()> {
+    let mut place = [0; LEAST_PLACE];
     match write_line(line, &mut place) {
-        Ok(length) if length <= LONGEST_LINE => {
-            rt.stdout().write_all(&place[0..length])?;
+        Ok(length) if length <= LEAST_PLACE => {
+            out.write_all(&place[0..length])?;
             Ok(())
         }
         _ => Err(anyhow!("a line could not be written")),
@@ -57,27 +63,23 @@ pub fn print_text(rt: &HostRuntime, text: &[u8]) -> anyhow::Result<()> {
 pub fn shown(bytes: &[u8]) -> &str
     ensures { IsUtf8 bytes.now → result.now ≡ bytes.now }
 {
-    match std::str::from_utf8(bytes) {
-        Ok(text) => text,
-        Err(_) => "?",
-    }
+    std::str::from_utf8(bytes).unwrap_or("?")
 }
 
 fn print_refused(rt: &HostRuntime, number: u8, line: usize, byte: usize) -> anyhow::Result<()> {
     let refused = Line::refused_at(number, line, byte);
-    print_line(rt, &refused)
+    print_line(&mut rt.stdout(), &refused)
 }
 
 // Prints why the text from some source was refused.
 pub fn print_fault(rt: &HostRuntime, source: &str, fault: ReadFault) -> anyhow::Result<()> {
-    let words = fault_words(fault);
     if let ReadFault::NoMemory = fault {
-        return Err(anyhow!(words));
+        return Err(anyhow::Error::from(fault));
     }
     let line = fault.line();
     print_refused(rt, fault.number(), line, fault.byte())?;
     // The answer stands on standard output; that its meaning could not be told besides is no failure.
-    let _ = eprintln!(rt; "{source}, line {line}: {words}");
+    let _ = eprintln!(rt; "{source}, line {line}: {fault}");
     Ok(())
 }
 
@@ -87,8 +89,7 @@ pub fn finish(rt: &HostRuntime, work: Result<(), Stop>) -> anyhow::Result<()> {
         Ok(()) => Ok(()),
         Err(Stop::Refused(refusal)) => {
             print_refused(rt, refusal.number(), 0, 0)?;
-            let words = refusal_words(refusal);
-            let _ = eprintln!(rt; "{words}");
+            let _ = eprintln!(rt; "{refusal}");
             Ok(())
         }
         Err(Stop::Failed(error)) => Err(error),
@@ -100,6 +101,7 @@ pub fn finish(rt: &HostRuntime, work: Result<(), Stop>) -> anyhow::Result<()> {
 pub fn end(rt: &HostRuntime, program: &str, res: anyhow::Result<()>) -> anyhow::Result<()> {
     match res {
         Ok(()) => Ok(()),
-        Err(error) => Err(anyhow!(format!(in rt.alloc(); "{program}: {error}")?)),
+        // One line with its causes: a context would be told with each cause on a line of its own.
+        Err(error) => Err(anyhow!(format!(in rt.alloc(); "{program}: {error:#}")?)),
     }
 }
