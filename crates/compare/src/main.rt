@@ -2,112 +2,66 @@
 // they do not, rules and a setting that tell them apart.
 #![tactic(auto)]
 
-mod prints;
+mod comparing;
 
 use anyhow::anyhow;
-use book::{Body, Book, Head, Rule};
+use book::Book;
+use comparing::Comparing;
 use console::{Stop, end, finish, print_fault, read_file};
-use engine::{Comparison, compare};
-use prints::{print_equal, print_unequal};
-use scale::{Godel, Hours, Luk, Scale};
 use std::env;
-use text::{Named, ScaleKind, read_named};
+use text::{Named, read_named};
 
-// The most statements that a book may have.
-const MOST_STATEMENTS: usize = 16;
-
-// The most rules that an addendum may have.
-const MOST_ADDENDUM: usize = 32;
-
-fn compare_books<S: Scale>(
-    rt: &HostRuntime,
-    scale: &S,
-    first: &Book,
-    second: &Book,
-    names: &[&[u8]],
-) -> Result<(), Stop> {
-    let blank = Rule {
-        head: Head::Bound(0),
-        weight: 0,
-        body: Body::empty(),
-    };
-    let mut addendum = [blank; MOST_ADDENDUM];
-    let mut row = [0; MOST_STATEMENTS];
-    let setting = &mut row[0..usize::from(first.statements()).min(MOST_STATEMENTS)];
-    match compare(scale, first, second, &mut addendum, setting)? {
-        Comparison::Equal => print_equal(rt)?,
-        Comparison::Unequal { book, rules } => {
-            print_unequal(
-                rt,
-                names,
-                book,
-                &addendum[0..rules.min(MOST_ADDENDUM)],
-                setting,
-            )?;
-        }
-    }
-    Ok(())
+// A book that was read, with what its text says beside its rules.
+#[derive(Drop)]
+struct NamedBook<'a> {
+    book: Book,
+    named: Named<'a>,
 }
 
-// Chooses the scale once, so that the search runs at each kind's own speed.
-fn compare_on_scale(
-    rt: &HostRuntime,
-    named: &Named,
-    first: &Book,
-    second: &Book,
-) -> Result<(), Stop> {
-    let names = named.names.as_slice();
-    let size = named.reading.size;
-    match named.reading.kind {
-        ScaleKind::Luk => compare_books(rt, &Luk::new(size)?, first, second, names),
-        ScaleKind::Godel => compare_books(rt, &Godel::new(size)?, first, second, names),
-        ScaleKind::Hours => compare_books(rt, &Hours::new(size)?, first, second, names),
-    }
+fn compare_on_scale(rt: &HostRuntime, first: &NamedBook, second: &NamedBook) -> Result<(), Stop> {
+    let reading = first.named.reading;
+    let comparing = Comparing {
+        rt,
+        first: &first.book,
+        second: &second.book,
+        names: first.named.names.as_slice(),
+    };
+    reading.kind.run(reading.size, comparing)?
 }
 
 // Do the names agree, statement by statement, as far as both books have one?
 fn same_names(first: &[&[u8]], second: &[&[u8]]) -> bool {
-    for (a, b) in first.iter().zip(second.iter()) {
-        if *a != *b {
-            return false;
-        }
-    }
-    true
+    first.iter().zip(second.iter()).all(|(a, b)| *a == *b)
 }
 
 // Compares two books that were read. Statements are matched by their numbers, so their names must agree.
-fn compare_named(
-    rt: &HostRuntime,
-    first_named: &Named,
-    second_named: &Named,
-    first: &Book,
-    second: &Book,
-) -> anyhow::Result<()> {
-    let a = first_named.reading;
-    let b = second_named.reading;
-    if a.kind != b.kind || a.size != b.size {
+fn compare_books(rt: &HostRuntime, first: &NamedBook, second: &NamedBook) -> anyhow::Result<()> {
+    let a = first.named.reading;
+    let b = second.named.reading;
+    if (a.kind, a.size) != (b.kind, b.size) {
         return Err(anyhow!("the books have different scale lines"));
     }
-    if !same_names(first_named.names.as_slice(), second_named.names.as_slice()) {
+    if !same_names(first.named.names.as_slice(), second.named.names.as_slice()) {
         return Err(anyhow!("the books have different names for a statement of the same number"));
     }
-    finish(rt, compare_on_scale(rt, first_named, first, second))
+    finish(rt, compare_on_scale(rt, first, second))
 }
 
 fn compare_files(rt: &HostRuntime, first_path: &str, second_path: &str) -> anyhow::Result<()> {
     let heap = rt.alloc();
     let first_text = read_file(rt, first_path)?;
     let second_text = read_file(rt, second_path)?;
-    let mut first = Book::new(heap)?;
-    let mut second = Book::new(heap)?;
-    let first_named = match read_named(heap, first_text.as_slice(), &mut first) {
-        Ok(named) => named,
+    let mut book = Book::new(heap)?;
+    let first = match read_named(heap, first_text.as_slice(), &mut book) {
+        Ok(named) => NamedBook { book, named },
         Err(fault) => return print_fault(rt, first_path, fault),
     };
-    match read_named(heap, second_text.as_slice(), &mut second) {
-        Ok(second_named) => compare_named(rt, &first_named, &second_named, &first, &second),
-        Err(fault) => print_fault(rt, second_path, fault),
-    }
+    let mut book = Book::new(heap)?;
+    let second = match read_named(heap, second_text.as_slice(), &mut book) {
+        Ok(named) => NamedBook { book, named },
+        Err(fault) => return print_fault(rt, second_path, fault),
+    };
+    compare_books(rt, &first, &second)
 }
 
 fn run(rt: &HostRuntime) -> anyhow::Result<()> {

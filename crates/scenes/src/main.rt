@@ -4,49 +4,27 @@
 #![tactic(auto)]
 
 use book::Book;
-use console::{Stop, end, finish, print_fault, print_line, read_input};
-use output::Line;
-use scale::{Godel, Hours, Luk, Scale};
-use solve::seek;
-use text::{Reading, ScaleKind, read};
+use console::{Stop, end, finish, print_fault, read_input, write_scenes};
+use scale::Scale;
+use text::{OnScale, Reading, read};
 
-// The most statements that a book may have.
-const MOST_STATEMENTS: usize = 16;
-
-// The most settings that seek goes through, and so the most scenes.
-const MOST_SETTINGS: u32 = 65_536;
-
-// Prints every scene in the order of positions, and then how many there are.
-fn print_scenes<S: Scale>(rt: &HostRuntime, scale: &S, book: &Book) -> Result<(), Stop> {
-    let mut row = [0; MOST_STATEMENTS];
-    let place = &mut row[0..usize::from(book.statements()).min(MOST_STATEMENTS)];
-    let mut start = 0;
-    let mut count = 0u64;
-    for _ in 0..MOST_SETTINGS {
-        let Some((position, rounds)) = seek(scale, book, start, place)? else {
-            break;
-        };
-        let scene = Line::Scene {
-            position,
-            rounds,
-            degrees: place,
-        };
-        print_line(rt, &scene)?;
-        count = count.saturating_add(1);
-        start = position.saturating_add(1);
-    }
-    let end = Line::count_of(count);
-    print_line(rt, &end)?;
-    Ok(())
+// The scenes of a book are printed.
+#[derive(Drop)]
+struct Printed<'a> {
+    rt: &'a HostRuntime,
+    book: &'a Book,
 }
 
-// Chooses the scale once, so that the search runs at each kind's own speed.
-fn print_book(rt: &HostRuntime, reading: &Reading, book: &Book) -> Result<(), Stop> {
-    match reading.kind {
-        ScaleKind::Luk => print_scenes(rt, &Luk::new(reading.size)?, book),
-        ScaleKind::Godel => print_scenes(rt, &Godel::new(reading.size)?, book),
-        ScaleKind::Hours => print_scenes(rt, &Hours::new(reading.size)?, book),
+impl OnScale for Printed<'_> {
+    type Answer = Result<(), Stop>;
+
+    fn on_scale<S: Scale>(self, scale: &S) -> Result<(), Stop> {
+        write_scenes(self.rt.alloc(), &mut self.rt.stdout(), scale, self.book)
     }
+}
+
+fn print_book(rt: &HostRuntime, reading: &Reading, book: &Book) -> Result<(), Stop> {
+    reading.kind.run(reading.size, Printed { rt, book })?
 }
 
 fn run(rt: &HostRuntime) -> anyhow::Result<()> {
