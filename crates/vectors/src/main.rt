@@ -4,15 +4,15 @@
 
 mod books;
 mod cases;
-mod hex;
 mod pairs;
 mod sections;
-mod settling;
 mod texts;
 
-use cases::{Case, File};
+use cases::{Case, FILES, File, Kind};
+use console::Stop;
+use scale::Refusal;
 use sections::{Section, cut, without_end};
-use std::alloc::{AllocError, Global};
+use std::alloc::Global;
 use std::io;
 
 // The most cases of a file that are named.
@@ -21,93 +21,77 @@ const MOST_NAMED: usize = 10;
 // How much of a heading is printed; a text's is the text itself.
 const MOST_SHOWN: usize = 80;
 
-fn case_agrees(heap: Global, file: File, sections: &[Section]) -> Result<bool, AllocError> {
-    match file.parse(sections) {
+// Whether a case agrees, by what its task answered: a case whose size or books are refused does not.
+fn agreed(answer: Result<Result<bool, Stop>, Refusal>) -> anyhow::Result<bool> {
+    match answer {
+        Ok(Ok(agrees)) => Ok(agrees),
+        Ok(Err(Stop::Failed(error))) => Err(error),
+        Ok(Err(Stop::Refused(_))) | Err(_) => Ok(false),
+    }
+}
+
+fn case_agrees(heap: Global, kind: Kind, sections: &[Section]) -> anyhow::Result<bool> {
+    match kind.parse(sections) {
         Some(Case::Book { text, lines }) => books::agrees(heap, text, lines),
         Some(Case::Text { hex, verdict }) => texts::agrees(heap, hex, verdict),
         Some(
             Case::Pair {
                 first,
                 second,
-                verdict,
+                equal,
             },
-        ) => pairs::agrees(heap, first, second, verdict),
+        ) => pairs::agrees(heap, first, second, equal),
         None => Ok(false),
     }
 }
 
-// The numbers of the cases that disagree, counted from 0.
-fn disagreeing(heap: Global, file: File, sections: &[Section]) -> Result<Vec<usize>, AllocError> {
-    let mut numbers = Vec::new(heap);
-    for number in 0..file.cases(sections) {
-        if !case_agrees(heap, file, file.case_at(sections, number))? {
-            numbers.push(number)?;
-        }
-    }
-    Ok(numbers)
-}
-
 // A case is named by the front of its first heading.
-fn name_of<'a>(case: &'a [Section<'a>]) -> &'a str {
-    match case {
-        [section, ..] => {
-            let heading = section.heading;
-            let shown = heading.get(0..MOST_SHOWN).unwrap_or(heading);
-            std::str::from_utf8(shown).unwrap_or("")
+fn name_of<'a>(case: &[Section<'a>]) -> &'a str {
+    let Some(section) = case.first() else {
+        return "";
+    };
+    let heading = section.heading;
+    let shown = heading.get(0..MOST_SHOWN).unwrap_or(heading);
+    std::str::from_utf8(shown).unwrap_or("")
+}
+
+// The names of the cases that disagree. A case has as many sections as its kind says; the last one may lack some.
+fn disagreeing<'a>(
+    heap: Global,
+    kind: Kind,
+    sections: &[Section<'a>],
+) -> anyhow::Result<Vec<&'a str>> {
+    let mut names = Vec::new(heap);
+    for case in sections.chunks(kind.parts()) {
+        if !case_agrees(heap, kind, case)? {
+            names.push(name_of(case))?;
         }
-        [] => "",
     }
-}
-
-fn print_names<'a>(
-    rt: &HostRuntime,
-    file: File,
-    sections: &'a [Section<'a>],
-    numbers: &[usize],
-) -> io::Result<()> {
-    let word = file.word();
-    for number in numbers {
-        let name = name_of(file.case_at(sections, *number));
-        println!(rt; "{word}: {name} disagrees")?;
-    }
-    Ok(())
-}
-
-fn print_counts(rt: &HostRuntime, file: File, cases: usize, disagreeing: usize) -> io::Result<()> {
-    let word = file.word();
-    let agreeing = cases.saturating_sub(disagreeing);
-    println!(rt; "{word} {agreeing} of {cases} agree")
+    Ok(names)
 }
 
 // Names the first cases that disagree, and prints how many agree.
-fn report<'a>(
-    rt: &HostRuntime,
-    file: File,
-    sections: &'a [Section<'a>],
-    disagreeing: &[usize],
-) -> io::Result<()> {
-    let named = disagreeing.get(0..MOST_NAMED).unwrap_or(disagreeing);
-    print_names(rt, file, sections, named)?;
-    print_counts(rt, file, file.cases(sections), disagreeing.len())
+fn report(rt: &HostRuntime, file: &File, cases: usize, disagreeing: &[&str]) -> io::Result<()> {
+    let words = file.words;
+    for name in disagreeing.iter().take(MOST_NAMED) {
+        println!(rt; "{words}: {name} disagrees")?;
+    }
+    let agreeing = cases.saturating_sub(disagreeing.len());
+    println!(rt; "{words} {agreeing} of {cases} agree")
 }
 
-fn run_file(rt: &HostRuntime, file: File) -> anyhow::Result<()> {
-    let bytes = std::fs::read(rt, file.path())?;
+fn run_file(rt: &HostRuntime, file: &File) -> anyhow::Result<()> {
+    let bytes = std::fs::read(rt, file.path)?;
     let sections = cut(rt.alloc(), without_end(bytes.as_slice()))?;
-    let numbers = disagreeing(rt.alloc(), file, sections.as_slice())?;
-    report(rt, file, sections.as_slice(), numbers.as_slice())?;
+    let names = disagreeing(rt.alloc(), file.kind, sections.as_slice())?;
+    let cases = sections.len().div_ceil(file.kind.parts());
+    report(rt, file, cases, names.as_slice())?;
     Ok(())
 }
 
-fn run(rt: &HostRuntime) -> anyhow::Result<()> {
-    run_file(rt, File::Books)?;
-    run_file(rt, File::Texts)?;
-    run_file(rt, File::Pairs)?;
-    run_file(rt, File::WrongBooks)?;
-    run_file(rt, File::WrongTexts)?;
-    run_file(rt, File::WrongPairs)
-}
-
 fn main(rt: HostRuntime) -> anyhow::Result<()> {
-    run(&rt)
+    for file in &FILES {
+        run_file(&rt, file)?;
+    }
+    Ok(())
 }

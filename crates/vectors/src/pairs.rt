@@ -1,22 +1,20 @@
 // Pairs of books that are strongly equivalent or not.
-use super::books::MOST_STATEMENTS;
-use super::settling::{Question, settle_on};
-use book::{Body, Book, Head, Rule};
+use super::agreed;
+use book::{Book, Head, Rule};
+use console::Stop;
 use engine::{Comparison, Which, compare};
 use scale::{Refusal, Scale};
 use solve::{Verdict, check};
-use std::alloc::{AllocError, Global};
-use text::{Reading, read};
+use std::alloc::Global;
+use text::{OnScale, read};
 
-// The most rules of an addendum, two for each statement.
-const MOST_ADDED: usize = 32;
-
-fn blank() -> Rule {
-    Rule {
-        head: Head::Bound(0),
-        weight: 0,
-        body: Body::empty(),
-    }
+// Two books, and whether they are said to be strongly equivalent.
+#[derive(Drop)]
+struct Pair<'a> {
+    heap: Global,
+    first: &'a mut Book,
+    second: &'a mut Book,
+    equal: bool,
 }
 
 fn enter_all(book: &mut Book, rules: &[Rule]) -> Result<(), Refusal> {
@@ -27,10 +25,8 @@ fn enter_all(book: &mut Book, rules: &[Rule]) -> Result<(), Refusal> {
 }
 
 fn is_scene<S: Scale>(scale: &S, book: &Book, setting: &[u8]) -> Result<bool, Refusal> {
-    match check(scale, book, setting)? {
-        Verdict::Scene { .. } => Ok(true),
-        _ => Ok(false),
-    }
+    let verdict = check(scale, book, setting)?;
+    Ok(matches!(verdict, Verdict::Scene { .. }))
 }
 
 // With the addendum added to both books, is the setting a scene of the named one and not of the other?
@@ -46,61 +42,58 @@ fn told_apart<S: Scale>(
     Ok(is_scene(scale, named, setting)? && !is_scene(scale, other, setting)?)
 }
 
-// Is the answer the verdict? Where it is "unequal", the addendum and the setting have to tell the books apart.
-fn answer_agrees<S: Scale>(
-    scale: &S,
-    first: &mut Book,
-    second: &mut Book,
-    answer: Comparison,
-    addendum: &[Rule],
-    setting: &[u8],
-    verdict: &[u8],
-) -> Result<bool, Refusal> {
-    match answer {
-        Comparison::Equal => Ok(verdict == b"equal".as_slice()),
-        Comparison::Unequal { .. } if verdict != b"unequal".as_slice() => Ok(false),
-        Comparison::Unequal { rules, .. } if rules > addendum.len() => Ok(false),
-        Comparison::Unequal {
-            book: Which::First,
-            rules,
-        } => told_apart(scale, first, second, &addendum[0..rules], setting),
-        Comparison::Unequal {
-            book: Which::Second,
-            rules,
-        } => told_apart(scale, second, first, &addendum[0..rules], setting),
+impl OnScale for Pair<'_> {
+    type Answer = Result<bool, Stop>;
+
+    // Is the answer the one that is said? Where it is "unequal", the addendum and the setting have to tell the books apart.
+    fn on_scale<S: Scale>(self, scale: &S) -> Result<bool, Stop> {
+        let Pair {
+            heap,
+            first,
+            second,
+            equal,
+        } = self;
+        let statements = usize::from(first.statements());
+        let mut addendum = vec![in heap; Rule::fact(Head::Bound(0), 0); 2 * statements]?;
+        let mut setting = vec![in heap; 0; statements]?;
+        match compare(scale, first, second, &mut addendum, &mut setting)? {
+            Comparison::Equal => Ok(equal),
+            Comparison::Unequal { .. } if equal => Ok(false),
+            Comparison::Unequal { book, rules } => {
+                let Some(added) = addendum.get(0..rules) else {
+                    return Ok(false);
+                };
+                match book {
+                    Which::First => Ok(told_apart(scale, first, second, added, &setting)?),
+                    Which::Second => Ok(told_apart(scale, second, first, added, &setting)?),
+                }
+            }
+        }
     }
-}
-
-pub(crate) fn comparison_agrees<S: Scale>(
-    scale: &S,
-    first: &mut Book,
-    second: &mut Book,
-    verdict: &[u8],
-) -> Result<bool, Refusal> {
-    let mut addendum = [blank(); MOST_ADDED];
-    let mut row = [0; MOST_STATEMENTS];
-    let setting = &mut row[0..usize::from(first.statements()).min(MOST_STATEMENTS)];
-    let answer = compare(scale, first, second, &mut addendum, setting)?;
-    answer_agrees(scale, first, second, answer, &addendum, setting, verdict)
-}
-
-fn same_scale(a: &Reading, b: &Reading) -> bool {
-    a.kind == b.kind && a.size == b.size
 }
 
 pub(crate) fn agrees(
     heap: Global,
     first: &[u8],
     second: &[u8],
-    verdict: &[u8],
-) -> Result<bool, AllocError> {
+    equal: bool,
+) -> anyhow::Result<bool> {
     let mut one = Book::new(heap)?;
     let mut two = Book::new(heap)?;
-    match (read(heap, first, &mut one), read(heap, second, &mut two)) {
-        (Ok(reading), Ok(other)) if same_scale(&reading, &other) => {
-            let question = Question::Equivalence(one, two, verdict);
-            Ok(settle_on(&reading, question).unwrap_or(false))
-        }
-        _ => Ok(false),
+    let Ok(reading) = read(heap, first, &mut one) else {
+        return Ok(false);
+    };
+    let Ok(other) = read(heap, second, &mut two) else {
+        return Ok(false);
+    };
+    if (reading.kind, reading.size) != (other.kind, other.size) {
+        return Ok(false);
     }
+    let pair = Pair {
+        heap,
+        first: &mut one,
+        second: &mut two,
+        equal,
+    };
+    agreed(reading.kind.run(reading.size, pair))
 }

@@ -2,6 +2,7 @@
 ghost use Rattle.std.specs.Prelude.{◌<◌, length, IfOk};
 ghost use Rattle.vectors.specs.Sections.{FirstLine, FirstSection, Parted, Cut};
 
+use memchr::{memchr, memmem};
 use std::alloc::{AllocError, Global};
 
 // The last line, where a file has one that belongs to no case.
@@ -18,12 +19,7 @@ pub(crate) struct Section<'a> {
 fn line_len(bytes: &[u8]) -> usize
     ensures { FirstLine bytes.now result }
 {
-    for i in 0..bytes.len() {
-        if bytes[i] == b'\n' {
-            return i;
-        }
-    }
-    bytes.len()
+    memchr(b'\n', bytes).unwrap_or(bytes.len())
 }
 
 // How many bytes stand before the second heading.
@@ -31,42 +27,34 @@ fn section_len(bytes: &[u8]) -> usize
     requires { 0 < length bytes.now }
     ensures { FirstSection bytes.now result }
 {
-    for i in 1..bytes.len() {
-        if bytes[i - 1] == b'\n' && bytes[i] == b'#' {
-            return i;
-        }
+    // A match, since in a closure of `map_or` the bound of the sum would not be known.
+    match memmem::find(bytes, b"\n#") {
+        Some(end) => end + 1,
+        None => bytes.len(),
     }
-    bytes.len()
 }
 
 impl<'a> Section<'a> {
     fn new(bytes: &'a [u8]) -> Section<'a>
         ensures { Parted bytes.now result }
     {
-        let end = line_len(bytes);
-        let rest = if end < bytes.len() { end + 1 } else { end };
+        let (heading, rest) = bytes.split_at(line_len(bytes));
         Section {
-            heading: &bytes[0..end],
-            body: &bytes[rest..],
+            heading,
+            body: rest.get(1..).unwrap_or(rest),
         }
     }
 
     // The body, where the heading begins with the word.
     pub(crate) fn body_under(&self, word: &[u8]) -> Option<&'a [u8]> {
-        if self.heading.starts_with(word) {
-            Some(self.body)
-        } else {
-            None
-        }
+        self.heading.starts_with(word).then_some(self.body)
     }
 
     // What follows the word in the heading, where there is no body.
     pub(crate) fn line_after(&self, word: &[u8]) -> Option<&'a [u8]> {
-        if self.body.is_empty() {
-            self.heading.strip_prefix(word)
-        } else {
-            None
-        }
+        self.heading
+            .strip_prefix(word)
+            .filter(|_| self.body.is_empty())
     }
 }
 
@@ -78,11 +66,11 @@ pub(crate) fn cut<'a>(heap: Global, bytes: &'a [u8]) -> Result<Vec<Section<'a>>,
     ensures { IfOk result (λ sections. Cut bytes.now sections.items) }
 {
     let mut sections = Vec::new(heap);
-    let mut at = 0;
-    while at < bytes.len() {
-        let end = at + section_len(&bytes[at..]);
-        sections.push(Section::new(&bytes[at..end]))?;
-        at = end;
+    let mut rest = bytes;
+    while !rest.is_empty() {
+        let (section, after) = rest.split_at(section_len(rest));
+        sections.push(Section::new(section))?;
+        rest = after;
     }
     Ok(sections)
 }

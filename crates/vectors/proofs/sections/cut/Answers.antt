@@ -1,20 +1,17 @@
-use Rattle.std.proofs.Common.{◌≡◌, ℕ, ◌+◌, ◌-◌, List, take, drop, vec_items, subst, arith}
-use Rattle.std.proofs.lemmas.List.{take_rest, length-drop}
-use Rattle.vectors.specs.Sections.{FirstSection, Parted}
-use Rattle.vectors.proofs.Cutting.{cut_more, cut_all}
+use Rattle.std.proofs.Common.{take, sym, subst, rules}
+use Rattle.vectors.specs.Sections.{Parted}
+use Rattle.vectors.proofs.Cutting.{CutTo, cut_more, cut_all}
 use Rattle.vectors.proofs.sections.cut.Goals as goal
 
-pub loop-at-preserved : goal.loop-at-preserved
-loop-at-preserved c =
+pub loop-rest-preserved : goal.loop-rest-preserved
+loop-rest-preserved c =
     let bytes = c.args.bytes.now in
-    let at = c.loop-at.at in
+    let rest = c.loop-rest.rest.now in
     let n = c.section_len.result in
-    let F : List ℕ → Type 0 = λ l. FirstSection l n in
-    let first : FirstSection (drop at bytes) n = subst F (take_rest bytes at) c.section_len.ensures in
-    let size : at + n - at ≡ n = omega arith in
-    let P : ℕ → Type 0 = λ k. Parted (take k (drop at bytes)) c.new.result in
-    let parted = subst P size c.new.ensures in
-    (omega (arith, first.1, length-drop at bytes), cut_more bytes at n (vec_items c.loop-at.sections) _ c.new.result c.loop-at.invariant.1 c.in_ok-push.ensures.items first parted)
+    let P = λ (l : _). Parted l c.new.result in
+    let parted : Parted (take n rest) c.new.result = subst P c.split_at.ensures.front c.new.ensures in
+    let Q = λ (l : _). CutTo bytes l c.push.new.self.items in
+    subst Q (sym c.split_at.ensures.back) (cut_more bytes rest n _ _ c.new.result c.loop-rest.invariant c.in_ok-push.ensures.items c.section_len.ensures parted)
 
 pub returns : goal.returns
-returns c = cut_all c.args.bytes.now c.loop-at.at _ (omega arith) c.loop-at.invariant.1
+returns c = cut_all c.args.bytes.now c.loop-rest.rest.now _ (search rules) c.loop-rest.invariant

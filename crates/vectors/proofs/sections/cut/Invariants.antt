@@ -1,9 +1,9 @@
-use Rattle.std.proofs.Common.{◌-◌, ◌≤◌, length, vec_items}
+use Rattle.std.proofs.Common.{length, vec_items}
 use Rattle.vectors.proofs.Cutting.{CutTo}
 use Rattle.vectors.proofs.sections.cut.Given as goal
 
-abbrev pub invariant-loop-at : goal.invariant-loop-at
-invariant-loop-at l = (l.at ≤ length l.bytes) × CutTo l.bytes l.at (vec_items l.sections)
+abbrev pub invariant-loop-rest : goal.invariant-loop-rest
+invariant-loop-rest l = CutTo l.bytes l.rest (vec_items l.sections)
 
-abbrev pub decreases-loop-at : goal.decreases-loop-at
-decreases-loop-at l = length l.bytes - l.at
+abbrev pub decreases-loop-rest : goal.decreases-loop-rest
+decreases-loop-rest l = length l.rest
