@@ -1,5 +1,5 @@
 // The worked books through the calls themselves: entered rule by rule, searched, judged and compared. And the limits.
-use book::{Body, Book, Head, Literal, Rule};
+use book::{Body, Book, Head, Literal, MOST_STATEMENTS, Rule};
 use engine::{Comparison, compare};
 use scale::{Godel, Hours, Luk, Refusal, Scale};
 use solve::{Verdict, seek};
@@ -13,15 +13,8 @@ const B: u8 = 1;
 
 const C: u8 = 2;
 
-// The most statements that a book may have.
-const MOST: usize = 16;
-
 fn fact(weight: u8, head: u8) -> Rule {
-    Rule {
-        head: Head::Statement(head),
-        weight,
-        body: Body::empty(),
-    }
+    Rule::fact(Head::Statement(head), weight)
 }
 
 fn rule(weight: u8, head: u8, literal: Literal) -> Rule {
@@ -34,29 +27,21 @@ fn rule(weight: u8, head: u8, literal: Literal) -> Rule {
 
 // A rule of the weight 4 with two literals.
 fn pair(head: Head, one: Literal, other: Literal) -> Result<Rule, Fail> {
-    match Body::new(&[one, other]) {
-        Ok(body) => Ok(Rule {
-            head,
-            weight: 4,
-            body,
-        }),
-        Err(_) => Err(Fail::new("the body was refused")),
-    }
+    let body = Body::new(&[one, other]).map_err(|_| Fail::new("the body was refused"))?;
+    Ok(Rule {
+        head,
+        weight: 4,
+        body,
+    })
 }
 
-// The number of a refusal, and 0 where there was none.
-fn number<T: Drop>(answer: Result<T, Refusal>) -> u8 {
-    match answer {
-        Ok(_) => 0,
-        Err(refusal) => refusal.number(),
-    }
+// The number of the refusal, if there was one.
+fn refused<T: Drop>(answer: Result<T, Refusal>) -> Option<u8> {
+    Some(answer.err()?.number())
 }
 
 fn made<S: Drop>(scale: Result<S, Refusal>) -> Result<S, Fail> {
-    match scale {
-        Ok(scale) => Ok(scale),
-        Err(_) => Err(Fail::new("the scale was refused")),
-    }
+    scale.map_err(|_| Fail::new("the scale was refused"))
 }
 
 fn filled(
@@ -88,10 +73,8 @@ fn sought<S: Scale + Drop>(
 ) -> Result<Result<Option<(u64, u32)>, Refusal>, Fail> {
     let scale = made(scale)?;
     let book = filled(rt, heap, scale.levels(), statements, rules)?;
-    let mut row = [0; MOST];
-    let length = usize::from(statements);
-    assert!(rt; length <= MOST);
-    Ok(seek(&scale, &book, start, &mut row[0..length]))
+    let mut place = vec![in heap; 0; usize::from(statements)]?;
+    Ok(seek(&scale, &book, start, &mut place))
 }
 
 // The scenes are exactly those at these positions, in order.
@@ -123,7 +106,7 @@ fn judged(
     setting: &[u8],
 ) -> Result<Result<Verdict, Refusal>, Fail> {
     let scale = made(Luk::new(4))?;
-    assert!(rt; setting.len() <= MOST);
+    assert!(rt; setting.len() <= MOST_STATEMENTS);
     let book = filled(rt, heap, 5, setting.len() as u8, rules)?;
     Ok(solve::check(&scale, &book, setting))
 }
@@ -140,11 +123,10 @@ fn compared<S: Scale + Drop>(
     let scale = made(scale)?;
     let one = filled(rt, heap, scale.levels(), statements, first)?;
     let two = filled(rt, heap, scale.levels(), statements, second)?;
-    let mut addendum = [fact(0, A); 2 * MOST];
-    let mut row = [0; MOST];
     let length = usize::from(statements);
-    assert!(rt; length <= MOST);
-    Ok(compare(&scale, &one, &two, &mut addendum, &mut row[0..length]))
+    let mut addendum = vec![in heap; fact(0, A); 2 * MOST_STATEMENTS]?;
+    let mut setting = vec![in heap; 0; length]?;
+    Ok(compare(&scale, &one, &two, &mut addendum, &mut setting))
 }
 
 #[test]
@@ -246,14 +228,23 @@ fn comparisons(rt: HostRuntime) -> Result<(), Fail> {
 #[test]
 fn limits(rt: HostRuntime) -> Result<(), Fail> {
     let heap = rt.alloc();
-    assert_eq!(rt; number(Luk::new(63)), 0);
-    assert_eq!(rt; number(Luk::new(64)), 6);
+    assert_eq!(rt; refused(Luk::new(63)), None);
+    assert_eq!(rt; refused(Luk::new(64)), Some(6));
     assert!(rt; matches!(sought(&rt, heap, Luk::new(4), 0, &[], 0)?, Ok(Some((0, 0)))));
-    assert_eq!(rt; number(sought(&rt, heap, Luk::new(3), 8, &[], 0)?), 0);
-    assert_eq!(rt; number(sought(&rt, heap, Luk::new(3), 9, &[], 0)?), 16);
-    assert_eq!(rt; number(compared(&rt, heap, Luk::new(3), 6, &[], &[])?), 0);
-    assert_eq!(rt; number(compared(&rt, heap, Luk::new(3), 7, &[], &[])?), 16);
+    assert_eq!(rt; refused(sought(&rt, heap, Luk::new(3), 8, &[], 0)?), None);
+    assert_eq!(rt;
+        refused(sought(&rt, heap, Luk::new(3), 9, &[], 0)?),
+        Some(16)
+    );
+    assert_eq!(rt;
+        refused(compared(&rt, heap, Luk::new(3), 6, &[], &[])?),
+        None
+    );
+    assert_eq!(rt;
+        refused(compared(&rt, heap, Luk::new(3), 7, &[], &[])?),
+        Some(16)
+    );
     let mut full = filled(&rt, heap, 5, 1, &[fact(1, A); 64])?;
-    assert_eq!(rt; number(full.enter(Head::Statement(A), 1, &[])), 11);
+    assert_eq!(rt; refused(full.enter(Head::Statement(A), 1, &[])), Some(11));
     Ok(())
 }
