@@ -8,8 +8,9 @@ use anyhow::anyhow;
 use book::Book;
 use comparing::Comparing;
 use console::{Stop, end, finish, print_fault, read_file};
+use std::alloc::Global;
 use std::env;
-use text::{Named, read_named};
+use text::{Named, ReadFault, read_named};
 
 // A book that was read, with what its text says beside its rules.
 #[derive(Drop)]
@@ -47,21 +48,23 @@ fn compare_books(rt: &HostRuntime, first: &NamedBook, second: &NamedBook) -> any
     finish(rt, compare_on_scale(rt, first, second))
 }
 
+fn read_book<'a>(heap: Global, text: &'a [u8]) -> Result<NamedBook<'a>, ReadFault> {
+    let mut book = Book::new(heap)?;
+    let named = read_named(heap, text, &mut book)?;
+    Ok(NamedBook { book, named })
+}
+
 fn compare_files(rt: &HostRuntime, first_path: &str, second_path: &str) -> anyhow::Result<()> {
-    let heap = rt.alloc();
     let first_text = read_file(rt, first_path)?;
     let second_text = read_file(rt, second_path)?;
-    let mut book = Book::new(heap)?;
-    let first = match read_named(heap, first_text.as_slice(), &mut book) {
-        Ok(named) => NamedBook { book, named },
+    let first = match read_book(rt.alloc(), first_text.as_slice()) {
+        Ok(first) => first,
         Err(fault) => return print_fault(rt, first_path, fault),
     };
-    let mut book = Book::new(heap)?;
-    let second = match read_named(heap, second_text.as_slice(), &mut book) {
-        Ok(named) => NamedBook { book, named },
-        Err(fault) => return print_fault(rt, second_path, fault),
-    };
-    compare_books(rt, &first, &second)
+    match read_book(rt.alloc(), second_text.as_slice()) {
+        Ok(second) => compare_books(rt, &first, &second),
+        Err(fault) => print_fault(rt, second_path, fault),
+    }
 }
 
 fn run(rt: &HostRuntime) -> anyhow::Result<()> {
