@@ -2,7 +2,7 @@
 use book::{Book, Head, Rule};
 use console::{Stop, print_text, shown};
 use scale::Scale;
-use solve::{Verdict, check, yield_at};
+use solve::{Verdict, check, degree, yield_at};
 use text::OnScale;
 use wording::{name_of, rule_text};
 
@@ -41,17 +41,12 @@ impl Judging<'_> {
         Ok(())
     }
 
-    // The degree of a statement in the setting.
-    fn degree(&self, statement: usize) -> u8 {
-        self.setting.get(statement).copied().unwrap_or(0)
-    }
-
     // The head of a broken rule: what it is, against what the rule demands.
     fn print_head(&self, head: Head, owed: u8) -> anyhow::Result<()> {
         match head {
             Head::Statement(statement) => {
                 let name = shown(name_of(self.names, statement));
-                let degree = self.degree(usize::from(statement));
+                let degree = degree(self.setting, statement);
                 println!(self.rt; "it yields {owed}, and {name} is {degree}")?;
             }
             Head::Bound(bound) => println!(self.rt; "it yields {owed}, and the bound is {bound}")?,
@@ -68,10 +63,11 @@ impl Judging<'_> {
         Ok(())
     }
 
-    // The statement by its name, and how far the rules support it.
+    // The statement by its name, and how far the rules support it. Its number is a `usize` here, and `name_of` and `degree` take
+    // those of rules.
     fn print_unsupported(&self, statement: usize, supported: u8) -> anyhow::Result<()> {
         let name = shown(self.names.get(statement).copied().unwrap_or(b"?"));
-        let degree = self.degree(statement);
+        let degree = self.setting.get(statement).copied().unwrap_or(0);
         println!(self.rt; "{name} is {degree}, and the rules support {supported}")?;
         Ok(())
     }

@@ -12,7 +12,8 @@ use std::alloc::Global;
 use std::env;
 use text::{Named, read_named};
 
-// The degrees that the arguments give. One over 255 is handed on as 255, which every book refuses alike.
+// The degrees that the arguments give. A number over 255, as far as a `u32` has it, is handed on as 255, which every book
+// refuses alike.
 fn degrees(heap: Global, arguments: &[String]) -> anyhow::Result<Vec<u8>> {
     let mut setting = Vec::new(heap);
     for argument in arguments {
