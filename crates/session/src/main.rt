@@ -74,7 +74,7 @@ fn print_outcome(rt: &HostRuntime, outcome: Outcome) -> io::Result<()> {
             "seek {position} {rounds} {place:?}"
         ),
         Outcome::Sought(Ok(None), _) => println!(rt; "seek none"),
-        Outcome::Compared(Ok(Comparison::Equal), _, _) => println!(rt; "compare equal"),
+        Outcome::Compared(Ok(equal @ Comparison::Equal), _, _) => println!(rt; "compare {equal}"),
         Outcome::Compared(Ok(unequal), _, setting) => println!(rt; "compare {unequal} {setting:?}"),
         Outcome::Entered(Err(refusal)) => print_refused(rt, "enter", refusal),
         Outcome::Struck(Err(refusal)) => print_refused(rt, "strike", refusal),
