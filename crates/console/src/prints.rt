@@ -40,7 +40,8 @@ impl From<anyhow::Error> for Stop {
     }
 }
 
-// A line of output goes out whole, or the failure is handed on.
+// A line of output goes out whole, or the failure is handed on. It is put into an array first, since `write_line` writes to
+// its caller's place.
 pub fn print_line(out: &mut impl Write, line: &Line) -> anyhow::Result<()> {
     let mut place = [0; LEAST_PLACE];
     match write_line(line, &mut place) {
@@ -101,7 +102,8 @@ pub fn finish(rt: &HostRuntime, work: Result<(), Stop>) -> anyhow::Result<()> {
 pub fn end(rt: &HostRuntime, program: &str, res: anyhow::Result<()>) -> anyhow::Result<()> {
     match res {
         Ok(()) => Ok(()),
-        // One line with its causes: a context would be told with each cause on a line of its own.
+        // A match, since the message needs memory. One line with its causes: a context would be told with each cause on a line
+        // of its own.
         Err(error) => Err(anyhow!(format!(in rt.alloc(); "{program}: {error:#}")?)),
     }
 }

@@ -25,7 +25,8 @@ pub fn write_scenes<S: Scale>(
     let mut place = vec![in heap; 0; usize::from(book.statements())]?;
     let mut start = 0;
     let mut count = 0u64;
-    // There are no more scenes than settings.
+    // Each scene is sought from behind the last one, so that its position and the count go along. There are no more scenes
+    // than settings.
     for _ in 0..MOST_SETTINGS {
         let Some((position, rounds)) = seek(scale, book, start, &mut place)? else {
             break;

@@ -37,7 +37,7 @@ fn is_under<S: Scale>(scale: &S, lower: &[u8], upper: &[u8]) -> bool
 }
 
 // Two programs of one scale and as many statements, and the number of their settings. Settings are slices here too, as in
-// `Program`.
+// `Program`, which shows neither its scale nor its statements.
 #[derive(Drop)]
 pub(crate) struct Search<'a, S: Scale> {
     pub(crate) scale: &'a S,

@@ -9,8 +9,8 @@ use book::{Book, allowed_size};
 use scale::{Refusal, Scale};
 use std::alloc::Global;
 
-// Makes both books, or neither. Here and below the two books are two parameters, since a call changes one of them and reads
-// the other.
+// Makes both books, or neither. Here and below the two books are two parameters: a call changes one of them and reads the
+// other, so a type that held both would be taken apart at each.
 fn make_both(
     first: &mut Book,
     second: &mut Book,

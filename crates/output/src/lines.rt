@@ -11,7 +11,8 @@ use scale::Refusal;
 // The highest degree of any scale.
 const MOST_DEGREE: u8 = 63;
 
-// The most degrees that a scene has: as many as a book has statements, though a line knows no book.
+// The most degrees that a scene has: as many as a book has statements. Written again, since one number is no reason to
+// depend on `book`.
 const MOST_DEGREES: usize = 16;
 
 // The least place that is taken, whatever the line: each line fits it.

@@ -9,7 +9,8 @@ use super::size::Size;
 use super::{Refusal, Scale};
 use std::marker::PhantomData;
 
-// A t-norm: how degrees of the chain from 0 to k multiply, with the residuum that goes with the product.
+// A t-norm: how degrees of the chain from 0 to k multiply, with the residuum that goes with the product. It stays within this
+// crate.
 pub trait Norm {
     ghost product: { ℕ → ℕ → ℕ → ℕ };
 

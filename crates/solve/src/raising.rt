@@ -49,6 +49,7 @@ impl<'a, S: Scale> Program<'a, S> {
         let mut row = [0; MOST_STATEMENTS];
         let next = &mut row[..upper.len()];
         lower.copy_from_slice(next);
+        // How many raisings there are is known only where they stand still.
         let mut rounds = 0;
         loop {
             self.raise(upper, lower, next);

@@ -35,6 +35,7 @@ impl<'a, S: Scale> Program<'a, S> {
         let mut lower = [0; MOST_STATEMENTS];
         let least = &mut lower[..row.len()];
         let rounds = self.least_model(row, least);
+        // An `if`, since by `then_some` the answer did not prove.
         if *least == *row { Some(rounds) } else { None }
     }
 

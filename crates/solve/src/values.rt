@@ -18,7 +18,8 @@ pub fn degree(row: &[u8], statement: u8) -> u8
 }
 
 // A scale and the two rows at which rules are valued on it. Its answers are the meaning's wherever the rows and the rule
-// have degrees of the scale only. It is made where it is used: in closures a method that made it did not prove.
+// have degrees of the scale only. It is made where it is used: in closures a method that made it did not prove, and elsewhere
+// it is one literal.
 #[derive(Drop)]
 pub(crate) struct Valuation<'a, S: Scale> {
     pub(crate) scale: &'a S,

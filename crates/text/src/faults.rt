@@ -143,6 +143,7 @@ impl ReadFault {
         }
     }
 
+    // No `Option`, though want of memory has no place: `line` and `byte` give their callers 0 for it.
     fn place(&self) -> Place
         ensures { result ≡ place_of self.now }
     {

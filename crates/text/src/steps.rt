@@ -1,4 +1,4 @@
-// What each line does to a draft.
+// What each line does to a draft. The place of a line is a parameter and no field, since a draft outlives its lines.
 ghost use Rattle.std.specs.Prelude.{◌≡◌, ◌+◌, ◌^◌, ◌<◌, map, length, Some, IfOk};
 ghost use Rattle.book.specs.Ledger.{clause};
 ghost use Rattle.text.specs.Drafting.{state_of};

@@ -1,4 +1,5 @@
-// The worked books through the calls themselves: entered rule by rule, searched, judged and compared. And the limits.
+// The worked books through the calls themselves: entered rule by rule, searched, judged and compared. And the limits. The
+// runtime and the memory stay two parameters, as in the calls of the library.
 use book::{Body, Book, Head, Literal, MOST_STATEMENTS, Rule};
 use engine::{Comparison, compare};
 use scale::{Godel, Hours, Luk, Refusal, Scale};
