@@ -27,6 +27,13 @@ pub fn allowed_size(levels: u8, statements: u8) -> Result<(), Refusal>
     Ok(())
 }
 
+// Why a book cannot be made of these levels and statements.
+pub fn size_refusal(levels: u8, statements: u8) -> Option<Refusal>
+    ensures { result ≡ make_refusal levels statements }
+{
+    allowed_size(levels, statements).err()
+}
+
 impl Book {
     // A book of 2 levels with no statement and no rule. Only this call can fail for want of memory.
     pub fn new(heap: Global) -> Result<Book, AllocError>

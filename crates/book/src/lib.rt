@@ -10,6 +10,6 @@ mod rule;
 mod table;
 
 pub use books::Book;
-pub use calls::allowed_size;
+pub use calls::{allowed_size, size_refusal};
 pub use rows::{Body, MOST_STATEMENTS, Rule};
 pub use rule::{Head, Literal};
