@@ -1,5 +1,5 @@
 // Two books are compared on a scale, and the answer printed.
-use book::{Book, Head, Rule};
+use book::{Book, Head, MOST_STATEMENTS, Rule};
 use console::{Stop, print_text};
 use engine::{Comparison, compare};
 use scale::Scale;
@@ -19,14 +19,15 @@ impl OnScale for Comparing<'_> {
     type Answer = Result<(), Stop>;
 
     fn on_scale<S: Scale>(self, scale: &S) -> Result<(), Stop> {
-        let statements = usize::from(self.first.statements());
-        let mut addendum = vec![in self.rt.alloc(); Rule::fact(Head::Bound(0), 0); 2 * statements]?;
-        let mut setting = vec![in self.rt.alloc(); 0; statements]?;
-        let answer = compare(scale, self.first, self.second, &mut addendum, &mut setting)?;
+        // Arrays: books that are read are compared without asking for memory.
+        let mut addendum = [Rule::fact(Head::Bound(0), 0); 2 * MOST_STATEMENTS];
+        let mut row = [0; MOST_STATEMENTS];
+        let setting = &mut row[..usize::from(self.first.statements()).min(MOST_STATEMENTS)];
+        let answer = compare(scale, self.first, self.second, &mut addendum, setting)?;
         self.print_answer(answer)?;
         if let Comparison::Unequal { rules, .. } = answer {
             self.print_addendum(addendum.get(0..rules).unwrap_or(&addendum))?;
-            self.print_setting(&setting)?;
+            self.print_setting(setting)?;
         }
         Ok(())
     }

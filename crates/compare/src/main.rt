@@ -48,20 +48,22 @@ fn compare_books(rt: &HostRuntime, first: &NamedBook, second: &NamedBook) -> any
     finish(rt, compare_on_scale(rt, first, second))
 }
 
-fn read_book<'a>(heap: Global, text: &'a [u8]) -> Result<NamedBook<'a>, ReadFault> {
-    let mut book = Book::new(heap)?;
+fn read_book<'a>(heap: Global, text: &'a [u8], mut book: Book) -> Result<NamedBook<'a>, ReadFault> {
     let named = read_named(heap, text, &mut book)?;
     Ok(NamedBook { book, named })
 }
 
 fn compare_files(rt: &HostRuntime, first_path: &str, second_path: &str) -> anyhow::Result<()> {
+    let heap = rt.alloc();
     let first_text = read_file(rt, first_path)?;
     let second_text = read_file(rt, second_path)?;
-    let first = match read_book(rt.alloc(), first_text.as_slice()) {
+    let first_book = Book::new(heap)?;
+    let second_book = Book::new(heap)?;
+    let first = match read_book(heap, first_text.as_slice(), first_book) {
         Ok(first) => first,
         Err(fault) => return print_fault(rt, first_path, fault),
     };
-    match read_book(rt.alloc(), second_text.as_slice()) {
+    match read_book(heap, second_text.as_slice(), second_book) {
         Ok(second) => compare_books(rt, &first, &second),
         Err(fault) => print_fault(rt, second_path, fault),
     }

@@ -19,7 +19,7 @@ fn two_lamps(rt: HostRuntime) -> Result<(), Fail> {
     );
     let scale = Luk::new(4).map_err(|_| Fail::new("the scale was refused"))?;
     let mut lines = Vec::new(heap);
-    assert!(rt; write_scenes(heap, &mut lines, &scale, &book).is_ok());
+    assert!(rt; write_scenes(&mut lines, &scale, &book).is_ok());
     let expected = b"4 1 0 4\n8 1 1 3\n12 1 2 2\n16 1 3 1\n20 1 4 0\nscenes 5\n";
     assert!(rt; lines.as_slice() == expected.as_slice());
     Ok(())
@@ -31,7 +31,7 @@ fn scale_of_other_levels(rt: HostRuntime) -> Result<(), Fail> {
     let book = Book::new(heap)?;
     let scale = Luk::new(4).map_err(|_| Fail::new("the scale was refused"))?;
     let mut lines = Vec::new(heap);
-    let answer = write_scenes(heap, &mut lines, &scale, &book);
+    let answer = write_scenes(&mut lines, &scale, &book);
     assert!(rt; matches!(answer, Err(Stop::Refused(_))));
     assert!(rt; lines.is_empty());
     Ok(())

@@ -19,7 +19,7 @@ impl OnScale for Printed<'_> {
     type Answer = Result<(), Stop>;
 
     fn on_scale<S: Scale>(self, scale: &S) -> Result<(), Stop> {
-        write_scenes(self.rt.alloc(), &mut self.rt.stdout(), scale, self.book)
+        write_scenes(&mut self.rt.stdout(), scale, self.book)
     }
 }
 

@@ -4,12 +4,35 @@ use book::Book;
 use console::{Stop, write_scenes};
 use scale::Scale;
 use std::alloc::Global;
+use std::io::{self, ErrorKind, Write};
 use text::{OnScale, read};
+
+// A writer that takes the expected lines and no others. It ends the writing at the first byte that is not expected, so that
+// a wrong answer costs no more of the search, and it keeps no line.
+#[derive(Drop)]
+struct Expected<'a> {
+    rest: &'a [u8],
+    agrees: bool,
+}
+
+impl Write for Expected<'_> {
+    fn write(&mut self, bytes: &[u8]) -> io::Result<usize> {
+        let Some(rest) = self.rest.strip_prefix(bytes) else {
+            self.agrees = false;
+            return Err(io::Error::from(ErrorKind::InvalidData));
+        };
+        self.rest = rest;
+        Ok(bytes.len())
+    }
+
+    fn flush(&mut self) -> io::Result<()> {
+        Ok(())
+    }
+}
 
 // Are the lines those of the book's scenes in the order of positions, and then of their count?
 #[derive(Drop)]
 struct Scenes<'a> {
-    heap: Global,
     book: &'a Book,
     lines: &'a [u8],
 }
@@ -17,11 +40,17 @@ struct Scenes<'a> {
 impl OnScale for Scenes<'_> {
     type Answer = Result<bool, Stop>;
 
-    // The lines are written to memory, and compared there.
     fn on_scale<S: Scale>(self, scale: &S) -> Result<bool, Stop> {
-        let mut told = Vec::new(self.heap);
-        write_scenes(self.heap, &mut told, scale, self.book)?;
-        Ok(told.as_slice() == self.lines)
+        let mut expected = Expected {
+            rest: self.lines,
+            agrees: true,
+        };
+        let written = write_scenes(&mut expected, scale, self.book);
+        if !expected.agrees {
+            return Ok(false);
+        }
+        written?;
+        Ok(expected.rest.is_empty())
     }
 }
 
@@ -30,10 +59,6 @@ pub(crate) fn agrees(heap: Global, text: &[u8], lines: &[u8]) -> anyhow::Result<
     let Ok(reading) = read(heap, text, &mut book) else {
         return Ok(false);
     };
-    let scenes = Scenes {
-        heap,
-        book: &book,
-        lines,
-    };
+    let scenes = Scenes { book: &book, lines };
     agreed(reading.kind.run(reading.size, scenes))
 }

@@ -1,6 +1,6 @@
 // Pairs of books that are strongly equivalent or not.
 use super::agreed;
-use book::{Book, Head, Rule};
+use book::{Book, Head, MOST_STATEMENTS, Rule};
 use console::Stop;
 use engine::{Comparison, Which, compare};
 use scale::{Refusal, Scale};
@@ -11,7 +11,6 @@ use text::{OnScale, read};
 // Two books, and whether they are said to be strongly equivalent.
 #[derive(Drop)]
 struct Pair<'a> {
-    heap: Global,
     first: &'a mut Book,
     second: &'a mut Book,
     equal: bool,
@@ -48,15 +47,15 @@ impl OnScale for Pair<'_> {
     // Is the answer the one that is said? Where it is "unequal", the addendum and the setting have to tell the books apart.
     fn on_scale<S: Scale>(self, scale: &S) -> Result<bool, Stop> {
         let Pair {
-            heap,
             first,
             second,
             equal,
         } = self;
-        let statements = usize::from(first.statements());
-        let mut addendum = vec![in heap; Rule::fact(Head::Bound(0), 0); 2 * statements]?;
-        let mut setting = vec![in heap; 0; statements]?;
-        match compare(scale, first, second, &mut addendum, &mut setting)? {
+        // Arrays: books that are read are compared without asking for memory.
+        let mut addendum = [Rule::fact(Head::Bound(0), 0); 2 * MOST_STATEMENTS];
+        let mut row = [0; MOST_STATEMENTS];
+        let setting = &mut row[..usize::from(first.statements()).min(MOST_STATEMENTS)];
+        match compare(scale, first, second, &mut addendum, setting)? {
             Comparison::Equal => Ok(equal),
             Comparison::Unequal { .. } if equal => Ok(false),
             Comparison::Unequal { book, rules } => {
@@ -64,8 +63,8 @@ impl OnScale for Pair<'_> {
                     return Ok(false);
                 };
                 match book {
-                    Which::First => Ok(told_apart(scale, first, second, added, &setting)?),
-                    Which::Second => Ok(told_apart(scale, second, first, added, &setting)?),
+                    Which::First => Ok(told_apart(scale, first, second, added, setting)?),
+                    Which::Second => Ok(told_apart(scale, second, first, added, setting)?),
                 }
             }
         }
@@ -90,7 +89,6 @@ pub(crate) fn agrees(
         return Ok(false);
     }
     let pair = Pair {
-        heap,
         first: &mut one,
         second: &mut two,
         equal,
