@@ -33,7 +33,7 @@ fn agreed(answer: Result<Result<bool, Stop>, Refusal>) -> anyhow::Result<bool> {
 fn case_agrees(heap: Global, kind: Kind, sections: &[Section]) -> anyhow::Result<bool> {
     match kind.parse(sections) {
         Some(Case::Book { text, lines }) => books::agrees(heap, text, lines),
-        Some(Case::Text { hex, verdict }) => texts::agrees(heap, hex, verdict),
+        Some(Case::Text { hex, verdict }) => Ok(texts::agrees(heap, hex, verdict)?),
         Some(
             Case::Pair {
                 first,

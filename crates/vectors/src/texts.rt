@@ -1,4 +1,9 @@
 // Texts that are granted or refused.
+ghost use Rattle.std.specs.Prelude.{◌≡◌, IfOk, vec_items};
+ghost use Rattle.std.specs.Option.{option_map};
+ghost use Rattle.std.specs.List.{list_all};
+ghost use Rattle.vectors.specs.Hex.{bytes_of, no_capital};
+
 use book::Book;
 use hex::FromHexError;
 use std::alloc::{AllocError, Global};
@@ -25,13 +30,31 @@ fn answer_to(heap: Global, text: &[u8]) -> Result<String, AllocError> {
     }
 }
 
-pub(crate) fn agrees(heap: Global, hex: &[u8], verdict: &[u8]) -> anyhow::Result<bool> {
-    match hex::decode(heap, hex) {
-        Ok(text) => {
-            let answer = answer_to(heap, text.as_slice())?;
-            Ok(answer.as_bytes() == verdict)
-        }
-        Err(FromHexError::OutOfMemory) => Err(FromHexError::OutOfMemory.into()),
-        Err(_) => Ok(false),
+fn has_no_capital(digits: &[u8]) -> bool
+    ensures { result ≡ list_all no_capital digits.now }
+{
+    digits.iter().all(|digit| !digit.is_ascii_uppercase())
+}
+
+// The bytes that the digits spell; nothing where they are none, or odd. A capital letter is no digit of these files, though
+// the crate's decoder takes it for one.
+fn decode(heap: Global, digits: &[u8]) -> Result<Option<Vec<u8>>, AllocError>
+    ensures { IfOk result (λ bytes. option_map vec_items bytes ≡ bytes_of digits.now) }
+{
+    if !has_no_capital(digits) {
+        return Ok(None);
     }
+    match hex::decode(heap, digits) {
+        Ok(bytes) => Ok(Some(bytes)),
+        Err(FromHexError::OutOfMemory) => Err(AllocError),
+        Err(_) => Ok(None),
+    }
+}
+
+pub(crate) fn agrees(heap: Global, digits: &[u8], verdict: &[u8]) -> Result<bool, AllocError> {
+    let Some(text) = decode(heap, digits)? else {
+        return Ok(false);
+    };
+    let answer = answer_to(heap, text.as_slice())?;
+    Ok(answer.as_bytes() == verdict)
 }
