@@ -6,7 +6,7 @@ use Rattle.std.specs.Int.Count.{ones_step}
 use Rattle.std.proofs.Common.{sym, ap, ◌∙◌, ⊎_elim, pow-suc, mod-eq_of_lt, arith}
 use Rattle.std.proofs.lemmas.Bool.{cases_eq}
 use Rattle.std.proofs.lemmas.Bool.Decides.{Decides-eqb, Decides-like, same_from_decides}
-use Rattle.std.proofs.lemmas.Nat.{and_shr, and_mask, and-not}
+use Rattle.std.proofs.lemmas.Nat.{and_comm, and_shr, and_mask, and-not}
 use Rattle.std.proofs.lemmas.Nat.Bits.{bit_at_and, bit_at_or, bit_at-lt, same_from_bits}
 
 -- a is within b
@@ -40,6 +40,15 @@ or_right a b = within b (bit_or a b) (λ i. omega (arith, bit_at_or a b i))
 pub or_least : (a b c : ℕ) → a ⊑ c → b ⊑ c → bit_or a b ⊑ c
 or_least a b c p q = within (bit_or a b) c (λ i. omega (arith, bit_at_or a b i, bits a c p i, bits b c q i))
 
+and_right : (a b : ℕ) → bit_and a b ⊑ b
+and_right a b = within (bit_and a b) b (λ i. omega (arith, bit_at_and a b i))
+
+and_left : (a b : ℕ) → bit_and a b ⊑ a
+and_left a b = within (bit_and a b) a (λ i. omega (arith, bit_at_and a b i))
+
+and_greatest : (a b c : ℕ) → a ⊑ b → a ⊑ c → a ⊑ bit_and b c
+and_greatest a b c p q = within a (bit_and b c) (λ i. omega (arith, bit_at_and b c i, bits a b p i, bits a c q i))
+
 -- joining and meeting distribute
 pub or_and : (a b c : ℕ) → bit_and (bit_or a b) c ≡ bit_or (bit_and a c) (bit_and b c)
 or_and a b c =
@@ -52,12 +61,17 @@ all h = 2 ^ h - 1
 pub in_all : (h a : ℕ) → a < 2 ^ h → a ⊑ all h
 in_all h a p = and_mask a h ∙ mod-eq_of_lt p
 
+-- a set and its complement share no hour, and make up all of them
+apart : (h a : ℕ) → a < 2 ^ h → bit_and a (all h - a) ≡ 0
+apart h a p = and_comm a (all h - a) ∙ omega (arith, and-not h a a p p, and_self a)
+
+whole : (h a : ℕ) → a < 2 ^ h → bit_or a (all h - a) ≡ all h
+whole h a p = omega (arith, or_add_and a (all h - a), apart h a p)
+
 -- an hour is in the complement where it is in all and not in the set
 lack_bit : (h a : ℕ) → a < 2 ^ h → (i : ℕ) → bit_at (all h - a) i ≡ bit_at (all h) i - bit_at a i
 lack_bit h a p i =
-    let apart : bit_and (all h - a) a ≡ 0 = omega (arith, and-not h a a p p, and_self a) in
-    let whole : bit_or (all h - a) a ≡ all h = omega (arith, or_add_and (all h - a) a, apart) in
-    omega (arith, ap (λ x. bit_at x i) apart, bit_at_and (all h - a) a i, ap (λ x. bit_at x i) whole, bit_at_or (all h - a) a i, bit_at-lt (all h) i)
+    omega (arith, ap (λ x. bit_at x i) (apart h a p), bit_at_and a (all h - a) i, ap (λ x. bit_at x i) (whole h a p), bit_at_or a (all h - a) i, bit_at-lt (all h) i)
 
 -- c is within b joined with the complement of a exactly when its hours in a are in b
 pub to_residuum : (h a b c : ℕ) → a < 2 ^ h → c < 2 ^ h → bit_and c a ⊑ b → c ⊑ bit_or b (all h - a)
@@ -85,6 +99,14 @@ fewer_up_to (suc n) a b h p ne =
 
 pub fewer : (a b : ℕ) → a ⊑ b → (a ≢ b) → count_ones a < count_ones b
 fewer a b = fewer_up_to (a + b) a b (omega arith)
+
+-- a set has no more hours than one that it is within, and fewer unless they are the same
+grown : (n a b : ℕ) → a + b ≤ n → a ⊑ b → (count_ones a ≤ count_ones b) × (count_ones b ≤ count_ones a → a ≡ b)
+grown n a b h p =
+    ⊎_elim
+    (λ same. (omega (arith, ap count_ones same), λ q. same))
+    (λ other. let less = fewer a b p other in (omega (arith, less), λ q. absurd (omega (arith, less, q))))
+    (cases_eq a b)
 
 -- there are more sets than hours
 pub below_pow : (h : ℕ) → h < 2 ^ h
