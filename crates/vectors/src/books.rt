@@ -7,8 +7,8 @@ use std::alloc::Global;
 use std::io::{self, ErrorKind, Write};
 use text::{OnScale, read};
 
-// A writer that takes the expected lines and no others. It ends the writing at the first byte that is not expected, so that
-// a wrong answer costs no more of the search, and it keeps no line.
+// A writer that takes the expected lines and no others. It fails at the first other one, so that a wrong answer costs no more
+// of the search, and it keeps no line.
 #[derive(Drop)]
 struct Expected<'a> {
     rest: &'a [u8],
